@@ -1,0 +1,37 @@
+-- What a call answers, in document 01's own numbers, put together from tests: the first that fails is the answer.
+use Prim.Native.Nat.{ℕ}
+use mathlib.Core.Bool.{Bool, cond}
+use lib.Dec.{ltb}
+use Rattle.words.specs.Search.{firstWrong}
+use Rattle.words.specs.declared.Refusal.{Refusal}
+use Rattle.words.specs.declared.Outcome.{Outcome}
+use Rattle.words.specs.declared.Outcome.the-variants.{Done, Refused}
+
+-- an accepted call answers number 0 at place 0 and its value; a refused one its number and place and the value 0
+pub record Answer : Type 0 where
+  pub number : ℕ
+  pub place : ℕ
+  pub value : ℕ
+
+abbrev pub accepted : ℕ → Answer
+accepted v = record { number = 0; place = 0; value = v }
+
+abbrev pub refused : ℕ → ℕ → Answer
+refused n k = record { number = n; place = k; value = 0 }
+
+-- the cases of an outcome; it has no value
+abbrev pub outcome : Outcome → Answer
+outcome Done = accepted 0
+outcome (Refused r) = refused (r .number) (r .place)
+
+-- refusal n at place k unless the test holds, and then `next`
+unfoldable pub need : Bool → ℕ → ℕ → Answer → Answer
+need ok n k next = cond ok next (refused n k)
+
+-- refusal n at the place that a search found, if that is before the end of its range, and otherwise `next`
+unfoldable pub unfound : ℕ → ℕ → ℕ → Answer → Answer
+unfound n place end next = cond (ltb place end) (refused n place) next
+
+-- refusal n at the first place from `from` up to but not `to` that is not right, and `next` where all are right
+abbrev pub every : ℕ → (ℕ → Bool) → ℕ → ℕ → Answer → Answer
+every n right from to next = unfound n (firstWrong right from to) to next

@@ -1,0 +1,5 @@
+-- What the contracts of words, and of the crates above it, cite.
+pub mod Bits
+pub mod Search
+pub mod Refusals
+pub mod Answers

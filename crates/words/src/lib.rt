@@ -1,0 +1,109 @@
+// What every crate of the ledger is made of: a 32-bit word with its kind and its bits, and the
+// refusal of a call with its number and its place.
+ghost use mathlib.Core.Path.{_≡_};
+ghost use Prim.Native.Nat.{_+_, _^_, _<_, _≤_};
+ghost use Rattle.words.specs.Bits.{bits, signedBits, isKind, within, wordOf, Named};
+ghost use Rattle.words.specs.Answers.{refused, outcome};
+
+// The numbers of document 01, "Where a call stops". Checked at the listing:
+pub const TOO_FEW_WORDS: u32 = 1; // fewer than 2 words; place 0
+
+pub const HEAD_WORD: u32 = 2; // word 0 or 1: kind, zero bits or range; its index
+
+pub const LISTING_SHORT: u32 = 3; // fewer words than its sizes ask for; its length
+
+pub const LATER_WORD: u32 = 4; // later word: kind, zero bits or range; its index
+
+pub const TERM_NOT_ABOVE: u32 = 5; // term not above the one before; the later index
+// Checked at the buffers and the book:
+pub const BOOK_SHORT: u32 = 6; // book below 2 + 3 × cells words; its length
+
+pub const LINES_SHORT: u32 = 7; // lines below 3 × cells words; its length
+
+pub const BOOK_WORD: u32 = 8; // a word of the book is wrong; its index
+// Checked at the call:
+pub const HORIZON_REACHED: u32 = 9; // close at the horizon; place 0
+
+pub const NO_SUCH_CELL: u32 = 10; // no such cell; place 0
+
+pub const CELL_WITHDRAWN: u32 = 11; // cell withdrawn; place 0
+
+pub const CELL_CONVERTED: u32 = 12; // plan year from 1 to current; place 0
+
+pub const YEAR_NOT_AHEAD: u32 = 13; // new year neither 0 nor current + 1 to horizon; place 0
+
+pub const LINE_TOO_LARGE: u32 = 14; // a kg line above 268,435,455; the cell
+
+pub const OUTPUT_SHORT: u32 = 15; // forecast's output below horizon numbers; its length
+// Checked at a reading and at a pool list:
+pub const NOT_FINITE: u32 = 16; // a NaN or an infinity; 0 or 1
+
+pub const OUT_OF_RANGE: u32 = 17; // a reading out of range; 0, 1 or 2
+
+pub const READING_MISSING: u32 = 18; // a missing reading; place 0
+
+pub const LIST_LENGTHS: u32 = 19; // list lengths unequal or not 1–5; place 0
+
+pub const VALUE_TOO_LARGE: u32 = 20; // a value above 20,000; the list, 0–3
+
+// Why a call is refused, and where.
+pub struct Refusal {
+    pub number: u32,
+    pub place: usize,
+}
+
+// The answer of a call that hands out nothing else.
+pub enum Outcome {
+    Done,
+    Refused(Refusal),
+}
+
+pub fn refuse(number: u32, place: usize) -> Outcome
+    ensures { λ r. ⌜ outcome r ≡ refused number place ⌝ }
+{
+    Outcome::Refused(Refusal { number, place })
+}
+
+// Bits `high` to `low` of `w`, as a number.
+pub fn bits(w: u32, high: u32, low: u32) -> u32
+    requires { ⌜ Named high low ⌝ }
+    ensures { λ r. ⌜ r ≡ bits w high low ⌝ }
+{
+    (w >> low) & ((1u32 << (high + 1 - low)) - 1)
+}
+
+// Bits `high` to `low` of `w`, as a two's complement number.
+pub fn signed_bits(w: u32, high: u32, low: u32) -> i32
+    requires { ⌜ Named high low ⌝ }
+    ensures { λ r. ⌜ r ≡ signedBits w high low ⌝ }
+{
+    let x = bits(w, high, low);
+    let half = 1u32 << (high - low);
+    if x < half {
+        return x as i32;
+    }
+    x as i32 - half as i32 - half as i32
+}
+
+pub fn is_kind(w: u32, kind: u32) -> bool
+    ensures { λ r. ⌜ r ≡ isKind kind w ⌝ }
+{
+    bits(w, 31, 28) == kind
+}
+
+// Whether bits `high` to `low` of `w` are a number from `least` to `most`.
+pub fn between(w: u32, high: u32, low: u32, least: u32, most: u32) -> bool
+    requires { ⌜ Named high low ⌝ }
+    ensures { λ r. ⌜ r ≡ within least most (bits w high low) ⌝ }
+{
+    let x = bits(w, high, low);
+    (least <= x) & (x <= most)
+}
+
+// The word of a kind whose bits 27 to 0 are `payload`.
+pub fn word(kind: u32, payload: u32) -> u32
+    requires { ⌜ (kind < 16) × (payload < 2 ^ 28) ⌝ }
+    ensures { λ r. ⌜ r ≡ wordOf kind payload ⌝ }
+{
+    (kind << 28) | payload
+}
