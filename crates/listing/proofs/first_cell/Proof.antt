@@ -1,0 +1,29 @@
+-- `listing::first_cell` meets its contract: the search has come to `at`. Assumes nothing.
+use Prim.Native.Nat.{_-_, _≤_}
+use Rattle.listing.specs.Check.{cellRight}
+use Rattle.words.proofs.Steps.{Passed, steps}
+use Rattle.listing.proofs.first_cell.Statement.{statement}
+use Rattle.listing.proofs.first_cell.Tie as tie
+
+abbrev Inv-loop : tie.InvT-loop
+Inv-loop listing strata horizon start end at₀ at = (start ≤ at) × (at ≤ end) × Passed (cellRight listing strata horizon start) start end at
+
+abbrev μ-loop : tie.MeasureT-loop
+μ-loop listing strata horizon start end at₀ at = end - at
+
+pub first-cell-spec : {M : Type 1} → statement M
+first-cell-spec =
+    tie.close
+    (tie.spec
+    Inv-loop
+    μ-loop
+    (λ c. search steps)
+    (λ c. search steps)
+    (λ c. search steps)
+    (λ c. search steps)
+    (λ c κs. search steps)
+    (λ c. search steps)
+    (λ c. search steps)
+    (λ c. search steps)
+    (λ c. search steps)
+    (λ c. search steps))

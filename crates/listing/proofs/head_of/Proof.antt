@@ -1,0 +1,20 @@
+-- `listing::head_of` meets its contract: each figure is its field of word 0 or 1. Assumes nothing.
+use borrow.Author.Needs.{needs}
+use Rattle.listing.specs.Layout.{headOf}
+use Rattle.listing.proofs.head_of.Statement.{statement}
+use Rattle.listing.proofs.head_of.Tie as tie
+
+pub head-of-spec : {M : Type 1} → statement M
+unfolding headOf
+head-of-spec =
+    tie.close
+    (tie.spec
+    (λ c. search needs)
+    (λ c. search needs)
+    (λ c κs. search needs)
+    (λ c κs. search needs)
+    (λ c κs. search needs)
+    (λ c κs. search needs)
+    (λ c κs. search needs)
+    (λ c κs. search needs)
+    (λ c. cc))
