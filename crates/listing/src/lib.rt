@@ -4,7 +4,7 @@ ghost use Prim.Native.Nat.{_+_, _*_, _<_, _≤_};
 ghost use lib.ListN.{length, getD};
 ghost use Rattle.words.specs.Search.{firstWrong};
 ghost use Rattle.words.specs.Answers.{outcome};
-ghost use Rattle.listing.specs.Layout.{headOf, startsOf, starts, cells, strata, horizon, rowOf, cellOf};
+ghost use Rattle.listing.specs.Layout.{headOf, startsOf, starts, cells, strata, horizon, rowAt, rowOf, cellAt, cellOf};
 ghost use Rattle.listing.specs.Check.{isSizeWord, isFigureWord, isTableWord, isDepthWord, isAreaWord, isTermWord, isAbove, isCellWord, tableRight, cellRight, termRight, aboveRight, laterChecked, checked};
 ghost use Rattle.listing.specs.Terms.{counted, termsToDate};
 ghost use Rattle.listing.specs.Accepted.{HeadRight, InTurn, Accepted};
@@ -220,6 +220,55 @@ pub fn starts_of(h: Head) -> Starts
         tables: HEAD_WORDS,
         cells,
         terms: cells + CELL_WORDS * h.cells as usize,
+    }
+}
+
+// Where the table of a stratum has its word for a year of age.
+fn row_place(listing: &[u32], stratum: u32, age: u32) -> usize
+    requires { ⌜ Accepted (now listing) × (stratum < strata (now listing)) × (1 ≤ age) × (age ≤ horizon (now listing)) ⌝ }
+    ensures { λ r. ⌜ (r ≡ rowAt (now (listing .entry)) stratum age) × (r < length (now (listing .entry))) ⌝ }
+{
+    let h = head_of(listing);
+    let s = starts_of(h);
+    s.tables + (stratum * h.horizon) as usize + (age - 1) as usize
+}
+
+// Where cell `i` has its first word.
+fn cell_place(listing: &[u32], i: usize) -> usize
+    requires { ⌜ Accepted (now listing) × (i < cells (now listing)) ⌝ }
+    ensures { λ r. ⌜ (r ≡ cellAt (now (listing .entry)) i) × (r + 1 < length (now (listing .entry))) ⌝ }
+{
+    let s = starts_of(head_of(listing));
+    s.cells + CELL_WORDS * i
+}
+
+// What the table of a stratum says for a year of age.
+pub fn row_of(listing: &[u32], stratum: u32, age: u32) -> Row
+    requires { ⌜ Accepted (now listing) × (stratum < strata (now listing)) × (1 ≤ age) × (age ≤ horizon (now listing)) ⌝ }
+    ensures { λ r. ⌜ r ≡ rowOf (now (listing .entry)) stratum age ⌝ }
+{
+    let w = listing[row_place(listing, stratum, age)];
+    Row {
+        drainage: bits(w, 27, 20),
+        oxidation: bits(w, 19, 10),
+        burning: bits(w, 9, 0),
+    }
+}
+
+// What is said of cell `i`.
+pub fn cell_of(listing: &[u32], i: usize) -> Cell
+    requires { ⌜ Accepted (now listing) × (i < cells (now listing)) ⌝ }
+    ensures { λ r. ⌜ r ≡ cellOf (now (listing .entry)) i ⌝ }
+{
+    let at = cell_place(listing, i);
+    let depth = listing[at];
+    let area = listing[at + 1];
+    Cell {
+        stratum: bits(depth, 27, 24),
+        conversion: bits(depth, 23, 16),
+        entered: bits(depth, 15, 0),
+        area: bits(area, 25, 12),
+        density: bits(area, 11, 0),
     }
 }
 

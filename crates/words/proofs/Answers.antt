@@ -8,7 +8,7 @@ use borrow.Author.Tests.{lt-ltb, le-ltb, lt-leb, le-leb, ltb-false, leb-true, no
 use Rattle.words.specs.Bits.{within}
 use Rattle.words.specs.Search.{firstWrong}
 use Rattle.words.specs.Answers.{Answer, accepted, refused, need, unfound, every}
-use Rattle.words.proofs.Meaning.{First, first-wrong}
+use Rattle.words.proofs.Meaning.{right-before}
 
 -- ---- forwards: v is what a function returns, as an answer
 
@@ -59,13 +59,12 @@ unfound-says n place end next h = case (ltb place end) refl h
     case false e h = (ltb-false place end e, h)
 
 -- each place of a search that found nothing is right
-pub every-says : (n : ℕ) (right : ℕ → Bool) (from to : ℕ) (next : Answer) → from ≤ to → every (suc n) right from to next .number ≡ 0 →
+pub every-says : (n : ℕ) (right : ℕ → Bool) (from to : ℕ) (next : Answer) → every (suc n) right from to next .number ≡ 0 →
     ((k : ℕ) → from ≤ k → k < to → right k ≡ true) × (next .number ≡ 0)
-every-says n right from to next h e =
+every-says n right from to next e =
     let s = unfound-says n (firstWrong right from to) to next e in
-    let f = first-wrong right from to h in
     let le = s .0 in
-    ((λ k p q. f .before k p (omega arith)), s .1)
+    ((λ k p q. right-before right from to k p (omega arith)), s .1)
 
 -- ---- a conjunction of tests
 

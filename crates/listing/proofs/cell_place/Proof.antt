@@ -1,0 +1,25 @@
+-- `listing::cell_place` meets its contract: all words of the cells are there, before the terms. Assumes nothing.
+use mathlib.Core.Path.{_≡_}
+use Prim.Native.Nat.{_+_, _*_, _<_}
+use native.Mathlib.Omega.{arith}
+use borrow.Author.Needs.{needs}
+use denote.Ref.{now}
+use Rattle.listing.specs.Layout.{starts, cellWords, cellAt}
+use Rattle.listing.proofs.Accepted.{head-by, cell-by}
+use Rattle.listing.proofs.cell_place.Statement.{statement}
+use Rattle.listing.proofs.cell_place.Tie as tie
+
+here : (c : tie.After-starts-of) →
+    (c .starts-of .result .cells + cellWords * c .before .before .before .args .i ≡ cellAt (now (c .before .before .before .args .listing)) (c .before .before .before .args .i))
+    × (cellAt (now (c .before .before .before .args .listing)) (c .before .before .before .args .i) + 1 < starts (now (c .before .before .before .args .listing)) .terms)
+here c = cell-by _ _ _ (c .before .head-of .ensures) (c .starts-of .ensures) (c .before .before .before .pre .0) _ (c .before .before .before .pre .1)
+
+pub cell-place-spec : {M : Type 1} → statement M
+cell-place-spec =
+    tie.close
+    (tie.spec
+    (λ c κs. search needs)
+    (λ c κs. search (needs, head-by))
+    (λ c. search needs)
+    (λ c. omega (arith, here (c .before)))
+    (λ c. omega (arith, here (c .before))))

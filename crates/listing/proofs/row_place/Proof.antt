@@ -1,0 +1,34 @@
+-- `listing::row_place` meets its contract: a stratum's rows follow those of the strata before it. Assumes nothing.
+use mathlib.Core.Path.{_≡_}
+use Prim.Native.Nat.{ℕ, _+_, _-_, _*_, _<_}
+use native.Mathlib.Omega.{arith}
+use borrow.Author.Needs.{needs}
+use denote.Ref.{now}
+use Rattle.listing.specs.Layout.{starts, rowAt}
+use Rattle.listing.proofs.Accepted.{head-by, row-by}
+use Rattle.listing.proofs.row_place.Statement.{statement}
+use Rattle.listing.proofs.row_place.Tie as tie
+
+abbrev at : tie.Start → ℕ
+at s = rowAt (now (s .args .listing)) (s .args .stratum) (s .args .age)
+
+here : (c : tie.After-starts-of) →
+    (c .starts-of .result .tables + c .before .before .before .args .stratum * c .before .head-of .result .horizon + (c .before .before .before .args .age - 1) ≡ at (c .before .before .before))
+    × (at (c .before .before .before) < starts (now (c .before .before .before .args .listing)) .terms)
+here c =
+    let pre = c .before .before .before .pre in
+    row-by _ _ _ (c .before .head-of .ensures) (c .starts-of .ensures) (pre .0) _ _ (pre .1) (pre .2, pre .3)
+
+pub row-place-spec : {M : Type 1} → statement M
+row-place-spec =
+    tie.close
+    (tie.spec
+    (λ c κs. search needs)
+    (λ c κs. search (needs, head-by))
+    (λ c. omega (arith, here (c .before)))
+    (λ c. omega (arith, here (c .before)))
+    (λ c. omega (arith, here (c .before .before)))
+    (λ c. search needs)
+    (λ c. search needs)
+    (λ c. omega (arith, here (c .before .before)))
+    (λ c. omega (arith, here (c .before .before))))
