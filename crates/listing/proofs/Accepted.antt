@@ -220,3 +220,11 @@ module _ (l : List ℕ) (h : Head) (s : Starts) (e : h ≡ headOf l) (f : s ≡ 
   cell-by i p =
       let parts = a .parts in
       (rw starts-by, omega arith)
+
+  -- the terms end at most 700 words on
+  pub terms-by : (s .terms ≡ starts l .terms) × (s .terms ≤ length l) × (length l ≤ s .terms + 700)
+  terms-by =
+      let long = a .long in
+      let few = a .few in
+      let horizon = a .head .horizon in
+      (rw starts-by, rw starts-by long, rw starts-by (omega arith))

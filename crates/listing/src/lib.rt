@@ -1,12 +1,12 @@
 // A project's listing: whether it is right, and what it says.
 ghost use mathlib.Core.Path.{_≡_};
 ghost use Prim.Native.Nat.{_+_, _*_, _<_, _≤_};
-ghost use lib.ListN.{length, getD};
+ghost use lib.ListN.{length, drop};
 ghost use Rattle.words.specs.Search.{firstWrong};
 ghost use Rattle.words.specs.Answers.{outcome};
 ghost use Rattle.listing.specs.Layout.{headOf, startsOf, starts, cells, strata, horizon, rowAt, rowOf, cellAt, cellOf};
 ghost use Rattle.listing.specs.Check.{isSizeWord, isFigureWord, isTableWord, isDepthWord, isAreaWord, isTermWord, isAbove, isCellWord, tableRight, cellRight, termRight, aboveRight, laterChecked, checked};
-ghost use Rattle.listing.specs.Terms.{counted, termsToDate};
+ghost use Rattle.listing.specs.Terms.{counted, total, termsToDate};
 ghost use Rattle.listing.specs.Accepted.{HeadRight, InTurn, Accepted};
 use words::HEAD_WORD;
 use words::LATER_WORD;
@@ -121,8 +121,10 @@ fn is_above(before: u32, w: u32) -> bool
     ensures { λ r. ⌜ r ≡ isAbove before w ⌝ }
 {
     let year = bits(before, 23, 17);
-    let next = bits(w, 23, 17);
-    (year < next) | ((year == next) & (bits(before, 27, 24) < bits(w, 27, 24)))
+    let next_year = bits(w, 23, 17);
+    let term = bits(before, 27, 24);
+    let next_term = bits(w, 27, 24);
+    (year < next_year) | ((year == next_year) & (term < next_term))
 }
 
 // The first word of the tables that is not right; where there is none, `end`.
@@ -272,6 +274,39 @@ pub fn cell_of(listing: &[u32], i: usize) -> Cell
     }
 }
 
+// What a term adds to the terms up to `last` of the years 1 to `year`.
+fn counted(w: u32, year: u32, last: u32) -> i64
+    ensures { λ r. ⌜ r ≡ counted year last w ⌝ }
+{
+    if (bits(w, 23, 17) <= year) & (bits(w, 27, 24) <= last) {
+        return signed_bits(w, 16, 0) as i64;
+    }
+    0
+}
+
+// The terms from word `start` on, at most 700.
+fn terms_from(listing: &[u32], start: usize, year: u32, last: u32) -> i64
+    requires { ⌜ (start ≤ length (now listing)) × (length (now listing) ≤ start + 700) ⌝ }
+    ensures { λ r. ⌜ r ≡ total (counted year last) (drop start (now (listing .entry))) ⌝ }
+{
+    let mut sum: i64 = 0;
+    let mut at = start;
+    while at < listing.len() {
+        sum += counted(listing[at], year, last);
+        at += 1;
+    }
+    sum
+}
+
+// The terms up to `last` of the years 1 to `year`: 8 for N, 5 for S. Peat, term 2, is not among them.
+pub fn terms_to_date(listing: &[u32], year: u32, last: u32) -> i64
+    requires { ⌜ Accepted (now listing) ⌝ }
+    ensures { λ r. ⌜ r ≡ termsToDate (now (listing .entry)) year last ⌝ }
+{
+    let s = starts_of(head_of(listing));
+    terms_from(listing, s.terms, year, last)
+}
+
 // The answer for the words after the head, whose parts begin at `s`.
 fn check_later(listing: &[u32], h: Head, s: Starts) -> Outcome
     requires { ⌜ InTurn h s ⌝ }
@@ -295,10 +330,10 @@ fn check_later(listing: &[u32], h: Head, s: Starts) -> Outcome
         return refuse(LATER_WORD, cell);
     }
     let term = first_term(listing, h.horizon, s.terms);
+    let later = first_not_above(listing, s.terms);
     if term < listing.len() {
         return refuse(LATER_WORD, term);
     }
-    let later = first_not_above(listing, s.terms);
     if later < listing.len() {
         return refuse(TERM_NOT_ABOVE, later);
     }

@@ -1,0 +1,75 @@
+-- Document 01's paragraph "Discount takes four lists", in its own letters Q and D.
+use Prim.Native.Nat.{ℕ, zero, suc, _+_, _-_, _*_, _≤_}
+use mathlib.Core.Path.{_≡_}
+use mathlib.Core.Bool.{Bool, true, cond, _&&_}
+use mathlib.Core.List.{List}
+use lib.Dec.{leb, eqb}
+use lib.ListN.{length}
+use Rattle.words.specs.Bits.{within}
+use Rattle.words.specs.Answers.{Answer, accepted, refused, need}
+use Rattle.words.specs.Refusals.{listLengths, valueTooLarge}
+use Rattle.sums.specs.Sums.{weighted, sum, allAtMost}
+use Rattle.discount.specs.declared.Discounted.{Discounted}
+use Rattle.discount.specs.declared.Discounted.the-variants.{TenThousandths, Refused}
+
+-- Q: "the sum of all squared half-widths", of the first class and of the second
+abbrev pub squares : List ℕ → List ℕ → ℕ
+squares first second = weighted first first + weighted second second
+
+-- D is the "distance" of the stock sums: of the two differences one is 0
+abbrev pub distance : ℕ → ℕ → ℕ
+distance x y = (x - y) + (y - x)
+
+-- the greatest number up to `top` that passes a test, and 0 where none does
+unfoldable pub greatest : (ℕ → Bool) → ℕ → ℕ
+greatest passes zero = 0
+greatest passes (suc top) = cond (passes (suc top)) (suc top) (greatest passes top)
+
+abbrev pub square : ℕ → ℕ
+square x = x * x
+
+-- n is not above 10,000 × (1 − √Q / D), said without the root: (10,000 − n) × D squared is at least 10^8 × Q
+unfoldable pub notAbove : ℕ → ℕ → ℕ → Bool
+notAbove Q D n = leb (100000000 * Q) (square ((10000 - n) * D))
+
+-- "10,000 × (1 − √Q / D) rounded down", for a Q below D × D; what this means is proved in proofs/Meaning.antt
+abbrev pub roundedDown : ℕ → ℕ → ℕ
+roundedDown Q D = greatest (notAbove Q D) 10000
+
+-- "0 if D is 0; 10,000 if 400 × Q ≤ 9 × D × D; 0 if Q ≥ D × D; else" the above
+unfoldable pub factor : ℕ → ℕ → ℕ
+factor Q D =
+    cond (eqb D 0) 0
+    (cond (leb (400 * Q) (9 * D * D)) 10000
+    (cond (leb (D * D) Q) 0
+    (roundedDown Q D)))
+
+-- refusal 19: "list lengths unequal or not 1–5"
+unfoldable pub lengthsRight : ℕ → ℕ → ℕ → ℕ → Bool
+lengthsRight a b c d = eqb a b && eqb a c && eqb a d && within 1 5 a
+
+-- refusal 20: "a value above 20,000"
+abbrev pub valuesRight : List ℕ → Bool
+valuesRight values = allAtMost 20000 values
+
+-- what the call answers for any four lists; lists 0 to 3 are tested in turn
+unfoldable pub discount : List ℕ → List ℕ → List ℕ → List ℕ → Answer
+discount firstWidths secondWidths firstStocks secondStocks =
+    need (lengthsRight (length firstWidths) (length secondWidths) (length firstStocks) (length secondStocks)) listLengths 0
+    (need (valuesRight firstWidths) valueTooLarge 0
+    (need (valuesRight secondWidths) valueTooLarge 1
+    (need (valuesRight firstStocks) valueTooLarge 2
+    (need (valuesRight secondStocks) valueTooLarge 3
+    (accepted (factor (squares firstWidths secondWidths) (distance (sum firstStocks) (sum secondStocks))))))))
+
+-- the cases of what the call returns, in document 01's numbers
+abbrev pub discounted : Discounted → Answer
+discounted (TenThousandths n) = accepted n
+discounted (Refused r) = refused (r .number) (r .place)
+
+-- ---- cited by the contracts of private functions alone
+
+-- a list that is not refused
+pub record Bounded (values : List ℕ) : Type 0 where
+  pub few : length values ≤ 5
+  pub low : valuesRight values ≡ true

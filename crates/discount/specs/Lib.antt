@@ -1,0 +1,2 @@
+-- What the contracts of discount cite.
+pub mod Discount
