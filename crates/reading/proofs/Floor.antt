@@ -1,0 +1,89 @@
+-- A level's millimetres by its parts: what `mm_above_lowest` works out. Assumes nothing.
+use mathlib.Core.Path.{_≡_, refl, sym, ap, _∙_}
+use Prim.Native.Nat.{ℕ, zero, suc, _+_, _-_, _*_, _/_, _^_, _≤_, _<_}
+use native.Mathlib.Nat.{mul-assoc, mul-right-comm, le-div-iff-mul-le, div-lt-iff-lt-mul, le-refl, le-antisymm, mul-lt-mul-of-pos-right, lt-of-mul-lt-mul-right, lt-of-lt-of-le, lt-of-le-of-lt, le-of-eq}
+use native.Mathlib.Omega.{arith}
+use mathlib.Core.Bool.{true, false, not, false≢true}
+use lib.IntN.{ℤ, pos, negsuc, negℤ, natAbs, _+ℤ_, _*ℤ_}
+use lib.Signed.{leZ, shrZ}
+use lib.Pow.{pow-pos}
+use lib.Ieee.{Float, binary32, lt, ofBits}
+use lib.Ieee.Nearest.{div-same}
+use borrow.Author.Tests.{leb-true, leb-false}
+use Rattle.words.proofs.Signed.{diff-is}
+use Rattle.reading.specs.Metres.{over, under, inLevel, Parted}
+use Rattle.reading.proofs.Order.{under-pos, level-inside, at-least, not-lt-whole}
+
+-- ---- a / d and b / p are one fraction: then so are the whole numbers just below them
+module _ (a b d p : ℕ) (D : 0 < d) (P : 0 < p) (v : a * p ≡ b * d) where
+  below-same : (c : ℕ) → c * d < a → c * p < b
+  below-same c h = lt-of-mul-lt-mul-right d (lt-of-le-of-lt (le-of-eq (mul-right-comm c p d)) (lt-of-lt-of-le (mul-lt-mul-of-pos-right h P) (le-of-eq v)))
+
+  some-same : 0 < a → 0 < b
+  some-same h = let k : 0 * p < b = below-same 0 (omega arith) in omega arith
+
+  less-one : 0 < a → (a - 1) / d ≤ (b - 1) / p
+  less-one A =
+      let c = (a - 1) / d in
+      let h : c * d ≤ a - 1 = le-div-iff-mul-le D .0 (le-refl c) in
+      let k : c * p < b = below-same c (omega arith) in
+      le-div-iff-mul-le P .1 (omega arith)
+
+just-below : (a b d p : ℕ) → 0 < d → 0 < p → a * p ≡ b * d → 0 < a → (a - 1) / d ≡ (b - 1) / p
+just-below a b d p D P v A = le-antisymm (less-one a b d p D P v A) (less-one b a p d P D (sym v) (some-same a b d p D P v A))
+
+-- ---- a fraction z / d of the size q / 2 ^ k: 1,000 times it, rounded down, and 100,000 more
+pub record Below (z : ℤ) (d q k : ℕ) : Type 0 where
+  pub some : 0 < 1000 * q
+  pub small : (1000 * q - 1) / 2 ^ k ≤ 99999
+  pub raised : pos (99999 - (1000 * q - 1) / 2 ^ k) ≡ shrZ (pos 1000 *ℤ z) d +ℤ pos 100000
+
+pub record Above (z : ℤ) (d q k : ℕ) : Type 0 where
+  pub small : 1000 * q / 2 ^ k ≤ 3000000
+  pub raised : pos (100000 + 1000 * q / 2 ^ k) ≡ shrZ (pos 1000 *ℤ z) d +ℤ pos 100000
+
+-- rounded down below zero
+shr-neg : (a d : ℕ) → 0 < a → shrZ (negℤ (pos a)) d ≡ negsuc ((a - 1) / d)
+shr-neg zero d A = absurd (omega arith)
+shr-neg (suc a) d A = ap (λ (i : ℕ). negsuc (i / d)) (omega arith)
+
+module _ (d q k : ℕ) (D : 0 < d) where
+  thousand : (n : ℕ) → n * 2 ^ k ≡ q * d → 1000 * n * 2 ^ k ≡ 1000 * q * d
+  thousand n v = mul-assoc 1000 n (2 ^ k) ∙ ap (λ (i : ℕ). 1000 * i) v ∙ sym (mul-assoc 1000 q d)
+
+  minus : (z : ℤ) → natAbs z * 2 ^ k ≡ q * d → leZ (pos 0 *ℤ pos d) z ≡ false → leZ (negℤ (pos 100) *ℤ pos d) z ≡ true → Below z d q k
+  minus (pos a) v n h = let k = leb-false (0 * d) a n in absurd (omega arith)
+  minus (negsuc a) v n h =
+      let most = at-least d 100 a h in
+      let A : 0 < 1000 * suc a = omega arith in
+      let w = thousand (suc a) v in
+      let is = just-below (1000 * suc a) (1000 * q) d (2 ^ k) D (pow-pos k) w A in
+      let c = (1000 * q - 1) / 2 ^ k in
+      let C : (1000 * suc a - 1) / d < 100000 = div-lt-iff-lt-mul D .1 (omega arith) in
+      let small : c ≤ 99999 = omega (arith, is) in
+      record {
+        some = some-same (1000 * suc a) (1000 * q) d (2 ^ k) D (pow-pos k) w A;
+        small = small;
+        raised = sym (diff-is 100000 (suc c) (99999 - c) (omega arith)) ∙ ap (λ (i : ℤ). i +ℤ pos 100000) (ap negsuc (sym is) ∙ sym (shr-neg (1000 * suc a) d A));
+      }
+
+  plus : (z : ℤ) → natAbs z * 2 ^ k ≡ q * d → leZ (pos 0 *ℤ pos d) z ≡ true → leZ z (pos 3000 *ℤ pos d) ≡ true → Above z d q k
+  plus (pos a) v n h =
+      let most = leb-true a (3000 * d) h in
+      let is : 1000 * a / d ≡ 1000 * q / 2 ^ k = div-same (1000 * a) d (1000 * q) (2 ^ k) D (pow-pos k) (thousand a v) in
+      let C : 1000 * a / d < 3000001 = div-lt-iff-lt-mul D .1 (omega arith) in
+      record { small = omega (arith, is); raised = ap pos (omega (arith, is)) }
+  plus (negsuc a) v n h = absurd (false≢true n)
+
+-- ---- what `mm_above_lowest` cites, of a level x
+module _ (x : Float) (q k : ℕ) (P : Parted x q k) (L : inLevel x ≡ true) where
+  -- the test x < 0.0
+  tested : not (lt x (ofBits binary32 0)) ≡ leZ (pos 0 *ℤ pos (under x)) (over x)
+  unfolding ofBits
+  tested = not-lt-whole x (ofBits binary32 0) (level-inside x L .finite) refl refl
+
+  pub below : lt x (ofBits binary32 0) ≡ true → Below (over x) (under x) q k
+  below h = minus (under x) q k (under-pos x) (over x) (P .value) (sym tested ∙ ap not h) (level-inside x L .least)
+
+  pub above : lt x (ofBits binary32 0) ≡ false → Above (over x) (under x) q k
+  above h = plus (under x) q k (under-pos x) (over x) (P .value) (sym tested ∙ ap not h) (level-inside x L .most)

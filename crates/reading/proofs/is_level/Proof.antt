@@ -1,0 +1,17 @@
+-- `reading::is_level` meets its contract: the ends are the whole numbers of the definition. Assumes nothing.
+use mathlib.Core.Path.{refl}
+use lib.Ieee.{ofBits, neg}
+use Rattle.reading.specs.Metres.{inLevel}
+use Rattle.reading.proofs.is_level.Statement.{statement}
+use Rattle.reading.proofs.is_level.Tie as tie
+
+in-range-requires : tie.Need-in-range-requires
+unfolding ofBits neg
+in-range-requires c κs = record { finite = c .pre; low-finite = refl; low-whole = refl; high-finite = refl; high-whole = refl }
+
+returns : tie.Need-returns
+unfolding inLevel ofBits neg
+returns c = c .in-range .ensures
+
+pub is-level-spec : {M : Type 1} → statement M
+is-level-spec = tie.close (tie.spec in-range-requires returns)

@@ -1,0 +1,32 @@
+-- `reading::levels` meets its contract: each return is the case of the definition that its tests picked. Assumes nothing.
+use borrow.Author.Needs.{needs}
+use Rattle.words.proofs.Answers.{said-yes}
+use Rattle.reading.specs.Depth.{levels}
+use Rattle.reading.proofs.Lowest.{depths}
+use Rattle.reading.proofs.levels.Statement.{statement}
+use Rattle.reading.proofs.levels.Tie as tie
+
+pub levels-spec : {M : Type 1} → statement M
+unfolding levels
+levels-spec =
+    tie.close
+    (tie.spec
+    (λ c κs. search needs)
+    (λ c κs. search needs)
+    (λ c. search depths)
+    (λ c κs. search needs)
+    (λ c κs. search needs)
+    (λ c. search depths)
+    (λ c κs. let e = c .before .before in said-yes _ _ (e .before .finite .ensures) (e .if1 .left))
+    (λ c κs. search needs)
+    (λ c. search depths)
+    (λ c κs. let e = c .before .before in said-yes _ _ (e .before .finite2 .ensures) (e .if2 .left))
+    (λ c κs. search needs)
+    (λ c. search depths depth 8)
+    (λ c κs. let e = c .before .before in said-yes _ _ (e .before .is-level .ensures) (e .if3 .left))
+    (λ c κs. let e = c .before in said-yes _ _ (e .before .is-level2 .ensures) (e .if4 .left))
+    (λ c κs. search needs)
+    (λ c. search depths depth 8)
+    (λ c κs. search needs)
+    (λ c. search depths depth 8)
+    (λ c. search depths depth 8 fits 9000))

@@ -1,0 +1,3 @@
+-- What the contracts of reading, and of the crates above it, cite.
+pub mod Metres
+pub mod Depth

@@ -1,0 +1,56 @@
+-- Document 01, "Forecast, readings, discount, program": the exact value of a binary32, its range in metres and its whole millimetres.
+-- The logic's `fin s m e` is the number m * 2 ^ e, negative where s is true, and 2 ^ e is the fraction up e / down e.
+use Prim.Native.Nat.{ℕ, _*_, _^_, _<_}
+use mathlib.Core.Path.{_≡_}
+use mathlib.Core.Bool.{Bool, true, false, cond, _&&_}
+use lib.IntN.{ℤ, pos, negℤ, natAbs, _*ℤ_}
+use lib.Signed.{leZ, shrZ}
+use lib.Ieee.{Float, nan, inf, fin, up, down}
+
+-- "not finite": a NaN or an infinity
+abbrev pub isFinite : Float → Bool
+isFinite nan = false
+isFinite (inf s) = false
+isFinite (fin s m e) = true
+
+-- "its exact value": a finite x is the fraction over x / under x, with an integer over x, 0 for -0 too, and under x above 0
+abbrev pub over : Float → ℤ
+over nan = pos 0
+over (inf s) = pos 0
+over (fin s m e) = cond s (negℤ (pos (m * up e))) (pos (m * up e))
+
+abbrev pub under : Float → ℕ
+under nan = 1
+under (inf s) = 1
+under (fin s m e) = down e
+
+-- low ≤ x ≤ high, for whole numbers low and high, with the denominator multiplied out
+abbrev pub between : ℤ → ℤ → Float → Bool
+between low high x = isFinite x && (leZ (low *ℤ pos (under x)) (over x) && leZ (over x) (high *ℤ pos (under x)))
+
+-- "a core lies in 0 to 20 (−0 is 0)"
+unfoldable pub inCore : Float → Bool
+inCore x = between (pos 0) (pos 20) x
+
+-- "a level in −100 to 3,000"
+unfoldable pub inLevel : Float → Bool
+inLevel x = between (negℤ (pos 100)) (pos 3000) x
+
+-- "its mm is the greatest whole number not above 1,000 times its exact value, also below zero": `shrZ` rounds down.
+-- That it is this number is proved in proofs/Law.antt
+unfoldable pub mm : Float → ℤ
+mm x = shrZ (pos 1000 *ℤ over x) (under x)
+
+-- ---- for contracts of private functions alone
+-- x is finite, and low and high are whole numbers
+pub record Ends (x low high : Float) : Type 0 where
+  pub finite : isFinite x ≡ true
+  pub low-finite : isFinite low ≡ true
+  pub low-whole : under low ≡ 1
+  pub high-finite : isFinite high ≡ true
+  pub high-whole : under high ≡ 1
+
+-- x without its sign is exactly mantissa / 2 ^ places, and the mantissa has at most 24 binary digits
+pub record Parted (x : Float) (mantissa places : ℕ) : Type 0 where
+  pub value : natAbs (over x) * 2 ^ places ≡ mantissa * under x
+  pub small : mantissa < 2 ^ 24

@@ -1,0 +1,161 @@
+// A depth in whole millimetres from a reading in metres, by the exact value of its binary32.
+use words::NOT_FINITE;
+use words::OUT_OF_RANGE;
+use words::READING_MISSING;
+use words::Refusal;
+ghost use mathlib.Core.Path.{_≡_};
+ghost use mathlib.Core.Bool.{true};
+ghost use Prim.Native.Nat.{_/_, _^_};
+ghost use lib.IntN.{pos, _+ℤ_};
+ghost use Rattle.words.specs.Answers.{refused};
+ghost use Rattle.reading.specs.Metres.{isFinite, over, between, inLevel, mm, Ends, Parted};
+ghost use Rattle.reading.specs.Depth.{measured, core, levels, depth};
+
+pub enum Reading {
+    Core(f32),
+    Levels(f32, f32),
+    Missing,
+}
+
+pub enum Measured {
+    Millimetres(u32),
+    Refused(Refusal),
+}
+
+// A float without its sign is exactly mantissa / 2 ^ places.
+struct Parts {
+    mantissa: u64,
+    places: u32,
+}
+
+// The depth that a reading gives, or why it gives none.
+pub fn depth(reading: Reading) -> Measured
+    ensures { λ r. ⌜ measured r ≡ depth reading ⌝ }
+{
+    match reading {
+        Reading::Core(x) => core(x),
+        Reading::Levels(surface, base) => levels(surface, base),
+        Reading::Missing => refuse(READING_MISSING, 0),
+    }
+}
+
+// A core is a level as well: its millimetres too are those above -100,000, less 100,000.
+fn core(x: f32) -> Measured
+    ensures { λ r. ⌜ measured r ≡ core x ⌝ }
+{
+    if !finite(x) {
+        return refuse(NOT_FINITE, 0);
+    }
+    if !in_range(x, 0.0, 20.0) {
+        return refuse(OUT_OF_RANGE, 0);
+    }
+    Measured::Millimetres(mm_above_lowest(x) - 100_000)
+}
+
+// A number that is not finite is refused before a level that is out of range, whichever it is.
+fn levels(surface: f32, base: f32) -> Measured
+    ensures { λ r. ⌜ measured r ≡ levels surface base ⌝ }
+{
+    if !finite(surface) {
+        return refuse(NOT_FINITE, 0);
+    }
+    if !finite(base) {
+        return refuse(NOT_FINITE, 1);
+    }
+    if !is_level(surface) {
+        return refuse(OUT_OF_RANGE, 0);
+    }
+    if !is_level(base) {
+        return refuse(OUT_OF_RANGE, 1);
+    }
+    let s = mm_above_lowest(surface);
+    let b = mm_above_lowest(base);
+    if s < b {
+        return refuse(OUT_OF_RANGE, 2);
+    }
+    if 20_000 < s - b {
+        return refuse(OUT_OF_RANGE, 2);
+    }
+    Measured::Millimetres(s - b)
+}
+
+fn refuse(number: u32, place: usize) -> Measured
+    ensures { λ r. ⌜ measured r ≡ refused number place ⌝ }
+{
+    Measured::Refused(Refusal { number, place })
+}
+
+// Neither a NaN nor an infinity: strictly between the two infinities.
+fn finite(x: f32) -> bool
+    ensures { λ r. ⌜ r ≡ isFinite x ⌝ }
+{
+    if x < f32::from_bits(0x7f80_0000) {
+        return f32::from_bits(0xff80_0000) < x;
+    }
+    false
+}
+
+// Whether x lies in low to high, whole numbers of metres, ends included; -0 is 0.
+fn in_range(x: f32, low: f32, high: f32) -> bool
+    requires { ⌜ Ends x low high ⌝ }
+    ensures { λ r. ⌜ r ≡ between (over low) (over high) x ⌝ }
+{
+    if x < low {
+        return false;
+    }
+    if high < x {
+        return false;
+    }
+    true
+}
+
+fn is_level(x: f32) -> bool
+    requires { ⌜ isFinite x ≡ true ⌝ }
+    ensures { λ r. ⌜ r ≡ inLevel x ⌝ }
+{
+    in_range(x, -100.0, 3000.0)
+}
+
+// The millimetres of a level, rounded down, above those of the lowest, -100,000: so no number is
+// below zero here, and a difference of levels is that of these.
+fn mm_above_lowest(x: f32) -> u32
+    requires { ⌜ inLevel x ≡ true ⌝ }
+    ensures { λ r. ⌜ pos r ≡ mm x +ℤ pos 100000 ⌝ }
+{
+    let p = take_apart(x);
+    let n = 1000 * p.mantissa;
+    if x < 0.0 {
+        return 99_999 - (shifted(n - 1, p.places) as u32);
+    }
+    100_000 + (shifted(n, p.places) as u32)
+}
+
+fn take_apart(x: f32) -> Parts
+    requires { ⌜ inLevel x ≡ true ⌝ }
+    ensures { λ r. ⌜ Parted x (r .mantissa) (r .places) ⌝ }
+{
+    let pattern = f32::to_bits(x);
+    let exponent = words::bits(pattern, 30, 23);
+    let fraction = words::bits(pattern, 22, 0);
+    // a subnormal: no leading digit, and the exponent of field 1
+    if exponent == 0 {
+        return Parts {
+            mantissa: fraction as u64,
+            places: 149,
+        };
+    }
+    Parts {
+        mantissa: (fraction + 0x80_0000) as u64,
+        places: 150 - exponent,
+    }
+}
+
+// n / 2 ^ k, rounded down, for any k: a shift by 64 or more is not defined.
+fn shifted(n: u64, k: u32) -> u64
+    ensures { λ r. ⌜ r ≡ n / 2 ^ k ⌝ }
+{
+    if k < 64 {
+        return n >> k;
+    }
+    0
+}
