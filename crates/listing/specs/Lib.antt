@@ -1,6 +1,4 @@
--- What the listing's contracts cite, in document 01's order: fields, layout, check, terms; last, what acceptance gives.
-pub mod Fields
+-- What the listing's contracts cite: its layout and its check; last, what acceptance gives.
 pub mod Layout
 pub mod Check
-pub mod Terms
 pub mod Accepted

@@ -12,7 +12,7 @@ use Rattle.listing.proofs.cell_place.Tie as tie
 here : (c : tie.After-starts-of) →
     (c .starts-of .result .cells + cellWords * c .before .before .before .args .i ≡ cellAt (now (c .before .before .before .args .listing)) (c .before .before .before .args .i))
     × (cellAt (now (c .before .before .before .args .listing)) (c .before .before .before .args .i) + 1 < starts (now (c .before .before .before .args .listing)) .terms)
-here c = cell-by _ _ _ (c .before .head-of .ensures) (c .starts-of .ensures) (c .before .before .before .pre .0) _ (c .before .before .before .pre .1)
+here c = cell-by _ _ _ (c .before .head .ensures) (c .starts-of .ensures) (c .before .before .before .pre .0) _ (c .before .before .before .pre .1)
 
 pub cell-place-spec : {M : Type 1} → statement M
 cell-place-spec =

@@ -9,7 +9,7 @@ use Rattle.listing.proofs.check.Tie as tie
 later : tie.Need-returns-4
 unfolding checked
 later c =
-    let e = later-by _ _ _ _ (c .before .before .head-of .ensures) (c .before .starts-of .ensures) (c .check-later .ensures) in
+    let e = later-by _ _ _ _ (c .before .before .head .ensures) (c .before .starts-of .ensures) (c .check-later .ensures) in
     search answers depth 8
 
 pub check-spec : {M : Type 1} → statement M

@@ -1,0 +1,102 @@
+-- What the tests of words say of their fields. Assumes nothing.
+use mathlib.Core.Path.{_≡_, refl}
+use mathlib.Core.Logic.{_⊎_, inl, inr, ⊎-elim}
+use mathlib.Core.Bool.{Bool, true, false, _&&_, _||_}
+use Prim.Native.Nat.{ℕ, _+_, _-_, _*_, _≤_, _<_}
+use native.Mathlib.Omega.{arith}
+use lib.Dec.{eqb, ltb}
+use borrow.Author.Tests.{ltb-true, eqb-true}
+use Rattle.words.specs.Bits.{within}
+use Rattle.words.proofs.Answers.{and-left, and-right, within-least, within-most}
+use Rattle.fields.specs.Fields.{cellsOf, strataOf, horizonOf, bufferOf, warmingOf, methaneOf, stratumOf, conversionOf, enteredOf, areaOf, densityOf, termOf, yearOf, headOf, cellOf}
+use Rattle.fields.specs.Words.{mostCells, mostStrata, mostHorizon, isSizeWord, isFigureWord, isDepthWord, isAreaWord, isTermWord, isAbove}
+use Rattle.fields.specs.Right.{HeadRight, CellRight, TermRight}
+
+pub head-right : (w v : ℕ) → isSizeWord w ≡ true → isFigureWord v ≡ true → HeadRight (headOf w v)
+unfolding isSizeWord isFigureWord headOf
+head-right w v p q =
+    let cells : within 1 mostCells (cellsOf w) ≡ true = search (and-left, and-right) in
+    let strata : within 1 mostStrata (strataOf w) ≡ true = search (and-left, and-right) in
+    let horizon : within 1 mostHorizon (horizonOf w) ≡ true = search (and-left, and-right) in
+    let buffer : within 0 100 (bufferOf v) ≡ true = search (and-left, and-right) in
+    let warming : within 1 100 (warmingOf v) ≡ true = search (and-left, and-right) in
+    let methane : within 0 100 (methaneOf v) ≡ true = search (and-left, and-right) in
+    record {
+      cells = (within-least _ _ _ cells, within-most _ _ _ cells);
+      strata = (within-least _ _ _ strata, within-most _ _ _ strata);
+      horizon = (within-least _ _ _ horizon, within-most _ _ _ horizon);
+      buffer = within-most _ _ _ buffer;
+      warming = (within-least _ _ _ warming, within-most _ _ _ warming);
+      methane = within-most _ _ _ methane;
+    }
+
+pub cell-right : (strata horizon w v : ℕ) → isDepthWord strata horizon w ≡ true → isAreaWord v ≡ true → CellRight strata horizon (cellOf w v)
+unfolding isDepthWord isAreaWord cellOf
+cell-right strata horizon w v p q =
+    let stratum : ltb (stratumOf w) strata ≡ true = search (and-left, and-right) in
+    let conversion : within 0 horizon (conversionOf w) ≡ true = search (and-left, and-right) in
+    let entered : within 0 20000 (enteredOf w) ≡ true = search (and-left, and-right) in
+    let area : within 1 10000 (areaOf v) ≡ true = search (and-left, and-right) in
+    let density : within 1 2400 (densityOf v) ≡ true = search (and-left, and-right) in
+    record {
+      stratum = ltb-true _ _ stratum;
+      conversion = within-most _ _ _ conversion;
+      entered = within-most _ _ _ entered;
+      area = (within-least _ _ _ area, within-most _ _ _ area);
+      density = (within-least _ _ _ density, within-most _ _ _ density);
+    }
+
+either : (a b : Bool) → (a || b) ≡ true → (a ≡ true) ⊎ (b ≡ true)
+either true b h = inl refl
+either false b h = inr h
+
+pub term-right : (horizon w : ℕ) → isTermWord horizon w ≡ true → TermRight horizon w
+unfolding isTermWord
+term-right horizon w h =
+    let term : (eqb (termOf w) 1 || within 3 8 (termOf w)) ≡ true = search (and-left, and-right) in
+    let year : within 1 horizon (yearOf w) ≡ true = search (and-left, and-right) in
+    record {
+      term = ⊎-elim (λ e. inl (eqb-true _ _ e)) (λ e. inr (within-least _ _ _ e, within-most _ _ _ e)) (either _ _ term);
+      year = (within-least _ _ _ year, within-most _ _ _ year);
+    }
+
+-- a term's number, counted through: 7 a year, of which term 1 is the first and term 8 the last
+abbrev numbered : ℕ → ℕ → ℕ
+numbered year term = 7 * (year - 1) + (term - 2)
+
+abbrev Term : ℕ → Type 0
+Term t = (t ≡ 1) ⊎ ((3 ≤ t) × (t ≤ 8))
+
+numbered-below : (horizon year term : ℕ) → Term term → (1 ≤ year) × (year ≤ horizon) → numbered year term < 7 * horizon
+numbered-below horizon year term t y = ⊎-elim (λ (e : term ≡ 1). omega arith) (λ (e : (3 ≤ term) × (term ≤ 8)). omega arith) t
+
+later-year : (y s z t : ℕ) → Term s → 1 ≤ y → y < z → numbered y s < numbered z t
+later-year y s z t p h k = ⊎-elim (λ (e : s ≡ 1). omega arith) (λ (e : (3 ≤ s) × (s ≤ 8)). omega arith) p
+
+higher-term : (y s t : ℕ) → Term s → Term t → s < t → numbered y s < numbered y t
+higher-term y s t p q h =
+    ⊎-elim
+    (λ (f : t ≡ 1). ⊎-elim (λ (e : s ≡ 1). absurd (omega arith)) (λ (e : (3 ≤ s) × (s ≤ 8)). absurd (omega arith)) p)
+    (λ (f : (3 ≤ t) × (t ≤ 8)). ⊎-elim (λ (e : s ≡ 1). omega arith) (λ (e : (3 ≤ s) × (s ≤ 8)). omega arith) p)
+    q
+
+unfoldable pub number : ℕ → ℕ
+number w = numbered (yearOf w) (termOf w)
+
+pub number-below : (horizon w : ℕ) → TermRight horizon w → number w < 7 * horizon
+unfolding number
+number-below horizon w r = numbered-below horizon (yearOf w) (termOf w) (r .term) (r .year)
+
+-- it rises where the terms do
+pub number-above : (horizon before w : ℕ) → TermRight horizon before → TermRight horizon w → isAbove before w ≡ true → number before < number w
+unfolding number isAbove
+number-above horizon before w p q h =
+    let y = yearOf before in
+    let z = yearOf w in
+    let s = termOf before in
+    let t = termOf w in
+    ⊎-elim
+    (λ (e : ltb y z ≡ true). later-year y s z t (p .term) (p .year .0) (ltb-true y z e))
+    (λ (e : (eqb y z && ltb s t) ≡ true).
+    rw (eqb-true y z (and-left (eqb y z) (ltb s t) e)) (higher-term z s t (p .term) (q .term) (ltb-true s t (and-right (eqb y z) (ltb s t) e))))
+    (either (ltb y z) (eqb y z && ltb s t) h)

@@ -1,0 +1,4 @@
+-- What the contracts of fields, and of the crates above it, cite.
+pub mod Fields
+pub mod Words
+pub mod Right

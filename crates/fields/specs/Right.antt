@@ -1,0 +1,30 @@
+-- What right words guarantee, for the contracts of the crates above. proofs/Right.antt makes it from the tests.
+use mathlib.Core.Path.{_≡_}
+use mathlib.Core.Logic.{_⊎_}
+use Prim.Native.Nat.{ℕ, _≤_, _<_}
+use Rattle.fields.specs.Fields.{termOf, yearOf}
+use Rattle.fields.specs.Words.{mostCells, mostStrata, mostHorizon}
+use Rattle.fields.specs.declared.Head.{Head}
+use Rattle.fields.specs.declared.Cell.{Cell}
+
+-- the figures of words 0 and 1
+pub record HeadRight (h : Head) : Type 0 where
+  pub cells : (1 ≤ h .cells) × (h .cells ≤ mostCells)
+  pub strata : (1 ≤ h .strata) × (h .strata ≤ mostStrata)
+  pub horizon : (1 ≤ h .horizon) × (h .horizon ≤ mostHorizon)
+  pub buffer : h .buffer ≤ 100
+  pub warming : (1 ≤ h .warming) × (h .warming ≤ 100)
+  pub methane : h .methane ≤ 100
+
+-- a cell's figures, in a listing of so many strata and years
+pub record CellRight (strata horizon : ℕ) (c : Cell) : Type 0 where
+  pub stratum : c .stratum < strata
+  pub conversion : c .conversion ≤ horizon
+  pub entered : c .entered ≤ 20000
+  pub area : (1 ≤ c .area) × (c .area ≤ 10000)
+  pub density : (1 ≤ c .density) × (c .density ≤ 2400)
+
+-- a term's word
+pub record TermRight (horizon w : ℕ) : Type 0 where
+  pub term : (termOf w ≡ 1) ⊎ ((3 ≤ termOf w) × (termOf w ≤ 8))
+  pub year : (1 ≤ yearOf w) × (yearOf w ≤ horizon)

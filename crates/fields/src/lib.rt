@@ -1,0 +1,134 @@
+// The words of a project's listing, each by itself: which are right, and what they say.
+ghost use mathlib.Core.Path.{_≡_};
+ghost use Rattle.fields.specs.Fields.{headOf, rowOf, cellOf};
+ghost use Rattle.fields.specs.Words.{isSizeWord, isFigureWord, isTableWord, isDepthWord, isAreaWord, isTermWord, isAbove};
+use words::between;
+use words::bits;
+use words::is_kind;
+
+// What is said of the project as a whole. The guard and the thickness, the least of peat, are in mm.
+pub struct Head {
+    pub cells: u32,
+    pub strata: u32,
+    pub horizon: u32,
+    pub buffer: u32,
+    pub warming: u32,
+    pub methane: u32,
+    pub guard: u32,
+    pub thickness: u32,
+}
+
+// What a stratum's table says for a year of age.
+pub struct Row {
+    pub drainage: u32,
+    pub oxidation: u32,
+    pub burning: u32,
+}
+
+// What is said of a cell.
+pub struct Cell {
+    pub stratum: u32,
+    pub conversion: u32,
+    pub entered: u32,
+    pub area: u32,
+    pub density: u32,
+}
+
+pub fn is_size_word(w: u32) -> bool
+    ensures { λ r. ⌜ r ≡ isSizeWord w ⌝ }
+{
+    is_kind(w, 1) & between(w, 27, 16, 1, 256) & between(w, 15, 8, 1, 16) & between(w, 7, 0, 1, 100)
+}
+
+pub fn is_figure_word(w: u32) -> bool
+    ensures { λ r. ⌜ r ≡ isFigureWord w ⌝ }
+{
+    is_kind(w, 2)
+        & (bits(w, 27, 23) == 0)
+        & between(w, 22, 16, 0, 100)
+        & between(w, 15, 8, 1, 100)
+        & between(w, 7, 0, 0, 100)
+}
+
+pub fn is_table_word(w: u32) -> bool
+    ensures { λ r. ⌜ r ≡ isTableWord w ⌝ }
+{
+    is_kind(w, 3)
+}
+
+pub fn is_depth_word(w: u32, strata: u32, horizon: u32) -> bool
+    ensures { λ r. ⌜ r ≡ isDepthWord strata horizon w ⌝ }
+{
+    is_kind(w, 4)
+        & (bits(w, 27, 24) < strata)
+        & between(w, 23, 16, 0, horizon)
+        & between(w, 15, 0, 0, 20_000)
+}
+
+pub fn is_area_word(w: u32) -> bool
+    ensures { λ r. ⌜ r ≡ isAreaWord w ⌝ }
+{
+    is_kind(w, 5)
+        & (bits(w, 27, 26) == 0)
+        & between(w, 25, 12, 1, 10_000)
+        & between(w, 11, 0, 1, 2_400)
+}
+
+pub fn is_term_word(w: u32, horizon: u32) -> bool
+    ensures { λ r. ⌜ r ≡ isTermWord horizon w ⌝ }
+{
+    is_kind(w, 6)
+        & ((bits(w, 27, 24) == 1) | between(w, 27, 24, 3, 8))
+        & between(w, 23, 17, 1, horizon)
+}
+
+// Whether a term is of a later year than the one before, or of the same year and a higher term.
+pub fn is_above(before: u32, w: u32) -> bool
+    ensures { λ r. ⌜ r ≡ isAbove before w ⌝ }
+{
+    let year = bits(before, 23, 17);
+    let next_year = bits(w, 23, 17);
+    let term = bits(before, 27, 24);
+    let next_term = bits(w, 27, 24);
+    (year < next_year) | ((year == next_year) & (term < next_term))
+}
+
+// What words 0 and 1 say.
+pub fn head_of(w: u32, v: u32) -> Head
+    ensures { λ r. ⌜ r ≡ headOf w v ⌝ }
+{
+    Head {
+        cells: bits(w, 27, 16),
+        strata: bits(w, 15, 8),
+        horizon: bits(w, 7, 0),
+        buffer: bits(v, 22, 16),
+        warming: bits(v, 15, 8),
+        methane: bits(v, 7, 0),
+        guard: 400,
+        thickness: 300,
+    }
+}
+
+// What a word of a table says.
+pub fn row_of(w: u32) -> Row
+    ensures { λ r. ⌜ r ≡ rowOf w ⌝ }
+{
+    Row {
+        drainage: bits(w, 27, 20),
+        oxidation: bits(w, 19, 10),
+        burning: bits(w, 9, 0),
+    }
+}
+
+// What the two words of a cell say.
+pub fn cell_of(w: u32, v: u32) -> Cell
+    ensures { λ r. ⌜ r ≡ cellOf w v ⌝ }
+{
+    Cell {
+        stratum: bits(w, 27, 24),
+        conversion: bits(w, 23, 16),
+        entered: bits(w, 15, 0),
+        area: bits(v, 25, 12),
+        density: bits(v, 11, 0),
+    }
+}

@@ -1,9 +1,0 @@
--- `listing::is_area_word` meets its contract: its tests are the definition's. Assumes nothing.
-use borrow.Author.Needs.{needs}
-use Rattle.listing.specs.Check.{isAreaWord}
-use Rattle.listing.proofs.is_area_word.Statement.{statement}
-use Rattle.listing.proofs.is_area_word.Tie as tie
-
-pub is-area-word-spec : {M : Type 1} → statement M
-unfolding isAreaWord
-is-area-word-spec = tie.close (tie.spec (λ c κs. search needs) (λ c κs. search needs) (λ c κs. search needs) (λ c κs. search needs) (λ c. cc))

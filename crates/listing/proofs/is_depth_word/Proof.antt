@@ -1,9 +1,0 @@
--- `listing::is_depth_word` meets its contract: its tests are the definition's. Assumes nothing.
-use borrow.Author.Needs.{needs}
-use Rattle.listing.specs.Check.{isDepthWord}
-use Rattle.listing.proofs.is_depth_word.Statement.{statement}
-use Rattle.listing.proofs.is_depth_word.Tie as tie
-
-pub is-depth-word-spec : {M : Type 1} → statement M
-unfolding isDepthWord
-is-depth-word-spec = tie.close (tie.spec (λ c κs. search needs) (λ c κs. search needs) (λ c κs. search needs) (λ c κs. search needs) (λ c. cc))

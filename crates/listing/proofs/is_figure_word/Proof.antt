@@ -1,9 +1,0 @@
--- `listing::is_figure_word` meets its contract: its tests are the definition's. Assumes nothing.
-use borrow.Author.Needs.{needs}
-use Rattle.listing.specs.Check.{isFigureWord}
-use Rattle.listing.proofs.is_figure_word.Statement.{statement}
-use Rattle.listing.proofs.is_figure_word.Tie as tie
-
-pub is-figure-word-spec : {M : Type 1} → statement M
-unfolding isFigureWord
-is-figure-word-spec = tie.close (tie.spec (λ c κs. search needs) (λ c κs. search needs) (λ c κs. search needs) (λ c κs. search needs) (λ c κs. search needs) (λ c. cc))

@@ -1,9 +1,0 @@
--- `listing::is_size_word` meets its contract: its tests are the definition's. Assumes nothing.
-use borrow.Author.Needs.{needs}
-use Rattle.listing.specs.Check.{isSizeWord}
-use Rattle.listing.proofs.is_size_word.Statement.{statement}
-use Rattle.listing.proofs.is_size_word.Tie as tie
-
-pub is-size-word-spec : {M : Type 1} → statement M
-unfolding isSizeWord
-is-size-word-spec = tie.close (tie.spec (λ c κs. search needs) (λ c κs. search needs) (λ c κs. search needs) (λ c κs. search needs) (λ c. cc))

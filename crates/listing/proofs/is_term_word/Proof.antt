@@ -1,9 +1,0 @@
--- `listing::is_term_word` meets its contract: its tests are the definition's. Assumes nothing.
-use borrow.Author.Needs.{needs}
-use Rattle.listing.specs.Check.{isTermWord}
-use Rattle.listing.proofs.is_term_word.Statement.{statement}
-use Rattle.listing.proofs.is_term_word.Tie as tie
-
-pub is-term-word-spec : {M : Type 1} → statement M
-unfolding isTermWord
-is-term-word-spec = tie.close (tie.spec (λ c κs. search needs) (λ c κs. search needs) (λ c κs. search needs) (λ c κs. search needs) (λ c. cc))

@@ -1,0 +1,105 @@
+-- The terms, one word at a time, and how large their sums can be. Assumes nothing.
+use mathlib.Core.Path.{_≡_, refl, sym, ap, _∙_}
+use mathlib.Core.Bool.{Bool, true, false, cond, _&&_}
+use mathlib.Core.List.{List, [], _∷_}
+use Prim.Native.Nat.{ℕ, suc, _+_, _*_, _^_, _≤_, _<_}
+use native.Mathlib.Numerals.{add-one}
+use native.Mathlib.Omega.{arith}
+use lib.Dec.{leb}
+use lib.ListN.{length, getD, drop, length-drop, drop-of-length-le}
+use lib.Seq.{drop-cons}
+use lib.IntN.{ℤ, pos, natAbs, _+ℤ_, +ℤ-assoc, +ℤ-idl, +ℤ-idr}
+use mir.Syntax.{w64}
+use mir.Val.{SFits, toZ, ofZ}
+use Rattle.words.specs.Bits.{bits, atLeast0}
+use Rattle.words.proofs.Fields.{field-below}
+use Rattle.words.proofs.Signed.{by-test, size-add, size-part, atLeast0-add, add-fits, add-reads, Halved, signed-size, signed-most}
+use Rattle.fields.specs.Fields.{yearOf, termOf, tonnesOf}
+use Rattle.listing.specs.Layout.{starts, horizon}
+use Rattle.terms.specs.Terms.{counted, total, termsToDate}
+use Rattle.listing.specs.Accepted.{Accepted}
+
+-- ---- one word
+
+halved : (w : ℕ) → Halved 17 (bits w 16 0) 65536
+halved w = record { some = omega arith; half = refl; below = field-below w 0 17 }
+
+pub tonnes-size : (w : ℕ) → natAbs (tonnesOf w) ≤ 65536
+tonnes-size w = signed-size (halved w)
+
+counted-size : (year last w : ℕ) → natAbs (counted year last w) ≤ 65536
+unfolding counted
+counted-size year last w = by-test (λ z. natAbs z ≤ 65536) (leb (yearOf w) year && leb (termOf w) last) (tonnesOf w) (pos 0) (λ e. tonnes-size w) (λ e. omega arith)
+
+counted-most : (year last w : ℕ) → atLeast0 (counted year last w) ≤ 65535
+unfolding counted atLeast0
+counted-most year last w = by-test (λ z. atLeast0 z ≤ 65535) (leb (yearOf w) year && leb (termOf w) last) (tonnesOf w) (pos 0) (λ e. let h = signed-most (halved w) in omega arith) (λ e. omega arith)
+
+-- whether a word counts, where y and t are its fields
+module _ (w year last y t : ℕ) (ey : y ≡ yearOf w) (et : t ≡ termOf w) where
+  pub due : (leb y year && leb t last) ≡ true → tonnesOf w ≡ counted year last w
+  unfolding counted
+  due b = cc
+
+  pub not-due : (leb y year && leb t last) ≡ false → pos 0 ≡ counted year last w
+  unfolding counted
+  not-due b = cc
+
+-- ---- their sum: a bound on both sides, and one above
+
+total-size : (f : ℕ → ℤ) (m : ℕ) → ((w : ℕ) → natAbs (f w) ≤ m) → (ws : List ℕ) → natAbs (total f ws) ≤ m * length ws
+unfolding total
+total-size f m h [] = omega arith
+total-size f m h (w ∷ ws) = omega (arith, size-add (f w) (total f ws), h w, total-size f m h ws)
+
+total-most : (f : ℕ → ℤ) (m : ℕ) → ((w : ℕ) → atLeast0 (f w) ≤ m) → (ws : List ℕ) → atLeast0 (total f ws) ≤ m * length ws
+unfolding total atLeast0
+total-most f m h [] = omega arith
+total-most f m h (w ∷ ws) = omega (arith, atLeast0-add (f w) (total f ws), h w, total-most f m h ws)
+
+from-size : (l : List ℕ) (start year last : ℕ) → length l ≤ start + 700 → natAbs (total (counted year last) (drop start l)) ≤ 45875200
+from-size l start year last h = omega (arith, total-size (counted year last) 65536 (counted-size year last) (drop start l), length-drop start l)
+
+module _ (l : List ℕ) (year last : ℕ) (a : Accepted l) where
+  pub terms-size : natAbs (termsToDate l year last) ≤ 45875200
+  terms-size = let h = a .few in let k = a .head-right .horizon in from-size l (starts l .terms) year last (omega arith)
+
+  pub terms-most : atLeast0 (termsToDate l year last) ≤ 45874500
+  terms-most =
+      let h = a .few in
+      let k = a .head-right .horizon in
+      omega (arith, total-most (counted year last) 65535 (counted-most year last) (drop (starts l .terms) l), length-drop (starts l .terms) l)
+
+-- ---- a sum from word `start` on has come to word `at` and to x: x and what is left make the whole
+pub record Part (year last : ℕ) (l : List ℕ) (start at : ℕ) (x : ℤ) : Type 0 where
+  pub makes : x +ℤ total (counted year last) (drop at l) ≡ total (counted year last) (drop start l)
+
+pub part-none : {year last : ℕ} {l : List ℕ} {start : ℕ} → Part year last l start start (pos 0)
+part-none {year} {last} {l} {start} = record { makes = +ℤ-idl (total (counted year last) (drop start l)) }
+
+module _ {year last : ℕ} {l : List ℕ} {start at : ℕ} {x : ℤ} (p : Part year last l start at x) where
+  abbrev here : ℤ
+  here = counted year last (getD l at 0)
+
+  part-more : at < length l → Part year last l start (at + 1) (x +ℤ here)
+  unfolding total
+  part-more h =
+      record {
+        makes = rw add-one (+ℤ-assoc x here (total (counted year last) (drop (suc at) l)) ∙ ap (λ ws. x +ℤ total (counted year last) ws) (sym (drop-cons l at 0 h)) ∙ p .makes);
+      }
+
+  pub part-end : length l ≤ at → x ≡ total (counted year last) (drop start l)
+  unfolding total
+  part-end h = sym (+ℤ-idr x) ∙ ap (λ ws. x +ℤ total (counted year last) ws) (sym (drop-of-length-le l {i = at} h)) ∙ p .makes
+
+  -- a turn that adds y, what a call gave for word `at`
+  module _ {y : ℤ} (q : y ≡ here) (turn : (start ≤ at) × (at < length l) × (length l ≤ start + 700)) where
+    room : natAbs x + natAbs here < 2 ^ 63
+    room =
+        omega (arith, size-part x (total (counted year last) (drop at l)), ap natAbs (p .makes), from-size l at year last (omega arith), from-size l start year last (turn .2), counted-size year last (getD l at 0))
+
+    pub part-adds : SFits w64 (x +ℤ y)
+    part-adds = add-fits w64 x refl here q room
+
+    pub part-turn : Part year last l start (at + 1) (toZ w64 (ofZ w64 (x +ℤ y)))
+    part-turn = rw (add-reads w64 x refl here q room) (part-more (turn .1))

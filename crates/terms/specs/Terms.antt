@@ -1,0 +1,21 @@
+-- Document 01, "Book and calls": the yearly terms of a listing to date. N has the terms up to 8, S those up to 5; term 2, peat, is no word of a listing.
+use Prim.Native.Nat.{ℕ}
+use mathlib.Core.Bool.{cond, _&&_}
+use mathlib.Core.List.{List, [], _∷_}
+use lib.Dec.{leb}
+use lib.ListN.{drop}
+use lib.IntN.{ℤ, pos, _+ℤ_}
+use Rattle.fields.specs.Fields.{termOf, yearOf, tonnesOf}
+use Rattle.listing.specs.Layout.{starts}
+
+-- what a word adds to the terms up to `last` of the years 1 to `year`
+unfoldable pub counted : ℕ → ℕ → ℕ → ℤ
+counted year last w = cond (leb (yearOf w) year && leb (termOf w) last) (tonnesOf w) (pos 0)
+
+unfoldable pub total : (ℕ → ℤ) → List ℕ → ℤ
+total f [] = pos 0
+total f (w ∷ ws) = f w +ℤ total f ws
+
+-- an absent term is 0
+abbrev pub termsToDate : List ℕ → ℕ → ℕ → ℤ
+termsToDate l year last = total (counted year last) (drop (starts l .terms) l)
