@@ -1,5 +1,5 @@
 -- A listing that was accepted: what the check's answer says of its words. Assumes nothing.
-use mathlib.Core.Path.{_≡_, refl}
+use mathlib.Core.Path.{_≡_, refl, sym, ap, _∙_}
 use mathlib.Core.Bool.{true}
 use mathlib.Core.List.{List}
 use Prim.Native.Nat.{ℕ, zero, suc, _+_, _-_, _*_, _≤_, _<_}
@@ -7,7 +7,9 @@ use native.Mathlib.Nat.{mul-le-mul, lt-of-not-le}
 use native.Mathlib.Omega.{arith}
 use lib.ListN.{length, getD}
 use borrow.Author.Tests.{leb-true, eq-eqb, ne-eqb}
-use Rattle.words.specs.Answers.{Answer}
+use Rattle.words.specs.declared.Outcome.{Outcome}
+use Rattle.words.specs.declared.Outcome.the-variants.{Done}
+use Rattle.words.specs.Answers.{Answer, outcome}
 use Rattle.words.proofs.Steps.{row-within}
 use Rattle.words.proofs.Answers.{need-says, every-says}
 use Rattle.fields.specs.Words.{mostStrata, mostHorizon, isSizeWord, isFigureWord, isDepthWord, isAreaWord, isAbove}
@@ -104,6 +106,10 @@ accepted l h =
       term-right = term;
       few = few-terms l (horizon l) (starts l .terms) term (h₈ .0);
     }
+
+-- the same where the call answered `Done`
+pub accepted-done : (l : List ℕ) (v : Outcome) → outcome v ≡ checked l → v ≡ Done → Accepted l
+accepted-done l v e d = accepted l (ap (λ (a : Answer). a .number) (sym e ∙ ap outcome d))
 
 -- ---- of an accepted listing, with h and s what `head` and `starts_of` answered
 

@@ -79,11 +79,6 @@ module _ (w : Width) {x′ : ℤ} (x : ℤ) (p : x′ ≡ x) where
     sub-reads = toZ-ofZ sub-fits ∙ ap₂ (λ a b. a -ℤ b) p q
 
 -- ---- not below 0: atLeast0
-pub atLeast0-size : (z : ℤ) → atLeast0 z ≤ natAbs z
-unfolding atLeast0
-atLeast0-size (pos n) = omega arith
-atLeast0-size (negsuc n) = omega arith
-
 atLeast0-sub : (a b : ℕ) → atLeast0 (subℕ a b) ≡ a - b
 unfolding atLeast0
 atLeast0-sub a b = by-test (λ z. atLeast0 z ≡ a - b) (ltb a b) (negsuc (b - suc a)) (pos (a - b)) (λ e. omega (arith, ltb-true a b e)) (λ e. refl)

@@ -1,0 +1,179 @@
+// Document 01's worked figures and refusals, run through the calls. Each line says what was asked,
+// and then the number, the place and the value of the answer; crates/trials/stdout has what document
+// 01 gives.
+use discount::Discounted;
+use reading::Measured;
+use reading::Reading;
+use words::Outcome;
+
+fn line(name: &[u8], number: u64, place: u64, value: u64) {
+    io::write_all(1, name);
+    io::write_all(1, b": ");
+    io::print_decimal(1, number);
+    io::write_all(1, b" ");
+    io::print_decimal(1, place);
+    io::write_all(1, b" ");
+    io::print_decimal(1, value);
+    io::write_all(1, b"\n");
+}
+
+fn checked(name: &[u8], listing: &[u32]) {
+    match listing::check(listing) {
+        Outcome::Done => {
+            line(name, 0, 0, 0);
+        }
+        Outcome::Refused(r) => {
+            line(name, r.number as u64, r.place as u64, 0);
+        }
+    }
+}
+
+fn measured(name: &[u8], reading: Reading) {
+    match reading::depth(reading) {
+        Measured::Millimetres(mm) => {
+            line(name, 0, 0, mm as u64);
+        }
+        Measured::Refused(r) => {
+            line(name, r.number as u64, r.place as u64, 0);
+        }
+    }
+}
+
+fn discounted(name: &[u8], answer: Discounted) {
+    match answer {
+        Discounted::TenThousandths(n) => {
+            line(name, 0, 0, n as u64);
+        }
+        Discounted::Refused(r) => {
+            line(name, r.number as u64, r.place as u64, 0);
+        }
+    }
+}
+
+// Whether the terms up to `last` of the years 1 to `year` come to `tonnes`.
+fn terms_are(listing: &[u32], year: u32, last: u32, tonnes: i64) -> bool {
+    match listing::check(listing) {
+        Outcome::Done => terms::terms_to_date(listing, year, last) == tonnes,
+        Outcome::Refused(_) => false,
+    }
+}
+
+fn summed(name: &[u8], right: bool) {
+    io::write_all(1, name);
+    if right {
+        io::write_all(1, b": right\n");
+    } else {
+        io::write_all(1, b": wrong\n");
+    }
+}
+
+// The worked listing, with a word of it changed for each refusal.
+fn listings() {
+    let mut l = [
+        0x1001_0102u32,
+        0x2014_190c,
+        0x3460_b554,
+        0x3460_b400,
+        0x4001_07d0,
+        0x5271_01f4,
+    ];
+    checked(b"worked listing", &l);
+    checked(b"no word", &l[..0]);
+    checked(b"one word", &l[..1]);
+    checked(b"five words", &l[..5]);
+    l[5] = 0x5271_11f4;
+    checked(b"area 10,001", &l);
+    l[3] = 0x4460_b400;
+    checked(b"table word of kind 4", &l);
+    l[1] = 0x2094_190c;
+    checked(b"bit 23 of word 1", &l);
+    l[0] = 0x1101_0102;
+    checked(b"257 cells", &l);
+}
+
+// The worked listing with terms: -100 t of term 5 and 100 t of term 8 in year 2, and what is wrong.
+fn terms() {
+    let mut l = [
+        0x1001_0102u32,
+        0x2014_190c,
+        0x3460_b554,
+        0x3460_b400,
+        0x4001_07d0,
+        0x5271_01f4,
+        0x6505_ff9c,
+        0x6804_0064,
+        0x6205_ff9c,
+    ];
+    checked(b"6505FF9C appended", &l[..7]);
+    summed(b"terms 1 to 5 of year 1", terms_are(&l[..8], 1, 5, 0));
+    summed(
+        b"terms 1 to 5 of years 1 to 2",
+        terms_are(&l[..8], 2, 5, -100),
+    );
+    summed(b"terms 1 to 8 of years 1 to 2", terms_are(&l[..8], 2, 8, 0));
+    checked(b"term 2", &l);
+    l[7] = 0x6505_ff9c;
+    checked(b"a term twice", &l[..8]);
+    checked(b"a term twice, then term 2", &l);
+}
+
+fn readings() {
+    measured(b"core 0.7", Reading::Core(0.7));
+    measured(b"core -0", Reading::Core(-0.0));
+    measured(b"core 20", Reading::Core(20.0));
+    measured(b"core above 20", Reading::Core(20.000002));
+    measured(b"core not a number", Reading::Core(0.0 / 0.0));
+    measured(b"levels 12.5 and 10.25", Reading::Levels(12.5, 10.25));
+    measured(b"levels -0.7 and -1.5", Reading::Levels(-0.7, -1.5));
+    measured(
+        b"levels 3001 and not a number",
+        Reading::Levels(3001.0, 0.0 / 0.0),
+    );
+    measured(b"levels 3001 and 0", Reading::Levels(3001.0, 0.0));
+    measured(b"levels 10 and 10.5", Reading::Levels(10.0, 10.5));
+    measured(b"no reading", Reading::Missing);
+}
+
+fn discounts() {
+    let none = [0u32];
+    let one = [1u32];
+    let width = [150u32];
+    let more = [3000u32];
+    let less = [2000u32];
+    discounted(
+        b"Q 22,500, D 1000",
+        discount::discount(&width, &none, &more, &less),
+    );
+    discounted(
+        b"Q 22,501, D 1000",
+        discount::discount(&width, &one, &less, &more),
+    );
+    let first = [120u32, 0];
+    let second = [0u32, 160];
+    let halves = [1500u32, 1500];
+    let thirds = [1000u32, 1000];
+    discounted(
+        b"Q 40,000, D 1000",
+        discount::discount(&first, &second, &halves, &thirds),
+    );
+    discounted(
+        b"no distance",
+        discount::discount(&width, &one, &more, &more),
+    );
+    discounted(
+        b"unequal lists",
+        discount::discount(&width, &second, &more, &less),
+    );
+    let large = [20_001u32];
+    discounted(
+        b"20,001 in list 2",
+        discount::discount(&width, &one, &large, &large),
+    );
+}
+
+fn main() {
+    listings();
+    terms();
+    readings();
+    discounts();
+}
