@@ -8,9 +8,9 @@ use lib.Dec.{eqb, ltb}
 use borrow.Author.Tests.{ltb-true, eqb-true}
 use Rattle.words.specs.Bits.{within}
 use Rattle.words.proofs.Answers.{and-left, and-right, within-least, within-most}
-use Rattle.fields.specs.Fields.{cellsOf, strataOf, horizonOf, bufferOf, warmingOf, methaneOf, stratumOf, conversionOf, enteredOf, areaOf, densityOf, termOf, yearOf, headOf, cellOf}
+use Rattle.fields.specs.Fields.{cellsOf, strataOf, horizonOf, bufferOf, warmingOf, methaneOf, stratumOf, conversionOf, enteredOf, areaOf, densityOf, termOf, yearOf, headOf, rowOf, cellOf}
 use Rattle.fields.specs.Words.{mostCells, mostStrata, mostHorizon, isSizeWord, isFigureWord, isDepthWord, isAreaWord, isTermWord, isAbove}
-use Rattle.fields.specs.Right.{HeadRight, CellRight, TermRight}
+use Rattle.fields.specs.Right.{HeadRight, RowRight, CellRight, TermRight}
 
 pub head-right : (w v : ℕ) → isSizeWord w ≡ true → isFigureWord v ≡ true → HeadRight (headOf w v)
 unfolding isSizeWord isFigureWord headOf
@@ -29,6 +29,11 @@ head-right w v p q =
       warming = (within-least _ _ _ warming, within-most _ _ _ warming);
       methane = within-most _ _ _ methane;
     }
+
+-- every word of a table is right, by the width of its fields
+pub row-right : (w : ℕ) → RowRight (rowOf w)
+unfolding rowOf
+row-right w = record { drainage = omega arith; oxidation = omega arith; burning = omega arith }
 
 pub cell-right : (strata horizon w v : ℕ) → isDepthWord strata horizon w ≡ true → isAreaWord v ≡ true → CellRight strata horizon (cellOf w v)
 unfolding isDepthWord isAreaWord cellOf

@@ -5,6 +5,7 @@ use Rattle.words.specs.Bits.{bits, signedBits}
 use Rattle.fields.specs.declared.Head.{Head}
 use Rattle.fields.specs.declared.Row.{Row}
 use Rattle.fields.specs.declared.Cell.{Cell}
+use Rattle.fields.specs.declared.YearlyTerm.{YearlyTerm}
 
 -- kind 1, word 0: cells, strata, horizon in years
 abbrev pub cellsOf : ℕ → ℕ
@@ -93,3 +94,7 @@ cellOf w v =
       area = areaOf v;
       density = densityOf v;
     }
+
+-- a term's word
+unfoldable pub yearlyTerm : ℕ → YearlyTerm
+yearlyTerm w = record { term = termOf w; year = yearOf w; tonnes = tonnesOf w }

@@ -5,6 +5,7 @@ use Prim.Native.Nat.{ℕ, _≤_, _<_}
 use Rattle.fields.specs.Fields.{termOf, yearOf}
 use Rattle.fields.specs.Words.{mostCells, mostStrata, mostHorizon}
 use Rattle.fields.specs.declared.Head.{Head}
+use Rattle.fields.specs.declared.Row.{Row}
 use Rattle.fields.specs.declared.Cell.{Cell}
 
 -- the figures of words 0 and 1
@@ -15,6 +16,12 @@ pub record HeadRight (h : Head) : Type 0 where
   pub buffer : h .buffer ≤ 100
   pub warming : (1 ≤ h .warming) × (h .warming ≤ 100)
   pub methane : h .methane ≤ 100
+
+-- a row's figures
+pub record RowRight (r : Row) : Type 0 where
+  pub drainage : r .drainage ≤ 255
+  pub oxidation : r .oxidation ≤ 1023
+  pub burning : r .burning ≤ 1023
 
 -- a cell's figures, in a listing of so many strata and years
 pub record CellRight (strata horizon : ℕ) (c : Cell) : Type 0 where

@@ -1,10 +1,11 @@
 // The words of a project's listing, each by itself: which are right, and what they say.
 ghost use mathlib.Core.Path.{_≡_};
-ghost use Rattle.fields.specs.Fields.{headOf, rowOf, cellOf};
+ghost use Rattle.fields.specs.Fields.{headOf, rowOf, cellOf, yearlyTerm};
 ghost use Rattle.fields.specs.Words.{isSizeWord, isFigureWord, isTableWord, isDepthWord, isAreaWord, isTermWord, isAbove};
 use words::between;
 use words::bits;
 use words::is_kind;
+use words::signed_bits;
 
 // What is said of the project as a whole. The guard and the thickness, the least of peat, are in mm.
 pub struct Head {
@@ -34,12 +35,21 @@ pub struct Cell {
     pub density: u32,
 }
 
+// A term of a year.
+pub struct YearlyTerm {
+    pub term: u32,
+    pub year: u32,
+    pub tonnes: i32,
+}
+
+// Whether w is right as word 0.
 pub fn is_size_word(w: u32) -> bool
     ensures { λ r. ⌜ r ≡ isSizeWord w ⌝ }
 {
     is_kind(w, 1) & between(w, 27, 16, 1, 256) & between(w, 15, 8, 1, 16) & between(w, 7, 0, 1, 100)
 }
 
+// Whether w is right as word 1.
 pub fn is_figure_word(w: u32) -> bool
     ensures { λ r. ⌜ r ≡ isFigureWord w ⌝ }
 {
@@ -50,12 +60,14 @@ pub fn is_figure_word(w: u32) -> bool
         & between(w, 7, 0, 0, 100)
 }
 
+// Whether w is right as a word of a table.
 pub fn is_table_word(w: u32) -> bool
     ensures { λ r. ⌜ r ≡ isTableWord w ⌝ }
 {
     is_kind(w, 3)
 }
 
+// Whether w is right as a cell's first word.
 pub fn is_depth_word(w: u32, strata: u32, horizon: u32) -> bool
     ensures { λ r. ⌜ r ≡ isDepthWord strata horizon w ⌝ }
 {
@@ -65,6 +77,7 @@ pub fn is_depth_word(w: u32, strata: u32, horizon: u32) -> bool
         & between(w, 15, 0, 0, 20_000)
 }
 
+// Whether w is right as a cell's second word.
 pub fn is_area_word(w: u32) -> bool
     ensures { λ r. ⌜ r ≡ isAreaWord w ⌝ }
 {
@@ -74,6 +87,7 @@ pub fn is_area_word(w: u32) -> bool
         & between(w, 11, 0, 1, 2_400)
 }
 
+// Whether w is right as a term.
 pub fn is_term_word(w: u32, horizon: u32) -> bool
     ensures { λ r. ⌜ r ≡ isTermWord horizon w ⌝ }
 {
@@ -86,11 +100,9 @@ pub fn is_term_word(w: u32, horizon: u32) -> bool
 pub fn is_above(before: u32, w: u32) -> bool
     ensures { λ r. ⌜ r ≡ isAbove before w ⌝ }
 {
-    let year = bits(before, 23, 17);
-    let next_year = bits(w, 23, 17);
-    let term = bits(before, 27, 24);
-    let next_term = bits(w, 27, 24);
-    (year < next_year) | ((year == next_year) & (term < next_term))
+    let last = term_of(before);
+    let next = term_of(w);
+    (last.year < next.year) | ((last.year == next.year) & (last.term < next.term))
 }
 
 // What words 0 and 1 say.
@@ -130,5 +142,16 @@ pub fn cell_of(w: u32, v: u32) -> Cell
         entered: bits(w, 15, 0),
         area: bits(v, 25, 12),
         density: bits(v, 11, 0),
+    }
+}
+
+// What a term's word says.
+pub fn term_of(w: u32) -> YearlyTerm
+    ensures { λ r. ⌜ r ≡ yearlyTerm w ⌝ }
+{
+    YearlyTerm {
+        term: bits(w, 27, 24),
+        year: bits(w, 23, 17),
+        tonnes: signed_bits(w, 16, 0),
     }
 }

@@ -15,7 +15,7 @@ use Rattle.words.proofs.Answers.{need-says, every-says}
 use Rattle.fields.specs.Words.{mostStrata, mostHorizon, isSizeWord, isFigureWord, isDepthWord, isAreaWord, isAbove}
 use Rattle.fields.specs.Right.{HeadRight, TermRight}
 use Rattle.fields.specs.declared.Head.{Head}
-use Rattle.fields.proofs.Right.{head-right, cell-right, term-right, number, number-below, number-above}
+use Rattle.fields.proofs.Right.{head-right, row-right, cell-right, term-right, number, number-below, number-above}
 use Rattle.listing.specs.Layout.{cellWords, head, cells, strata, horizon, startsOf, starts, rowAt, cellAt}
 use Rattle.listing.specs.Check.{isCellWord, laterChecked, checked}
 use Rattle.listing.specs.Accepted.{InTurn, Accepted}
@@ -102,8 +102,10 @@ accepted l h =
       head-right = right;
       parts = parts;
       long = long;
+      row-right = λ stratum age. row-right (getD l (rowAt l stratum age) 0);
       cell-right = λ i lt. cell-right (strata l) (horizon l) _ _ (turn-depth _ _ _ _ (omega arith) (h₆ .0 (cellAt l i) (omega arith) (omega arith))) (turn-area _ _ _ _ (omega arith) (h₆ .0 (cellAt l i + 1) (omega arith) (omega arith)));
       term-right = term;
+      rising = h₈ .0;
       few = few-terms l (horizon l) (starts l .terms) term (h₈ .0);
     }
 

@@ -11,19 +11,22 @@ use Rattle.fields.specs.declared.Head.{Head}
 use Rattle.listing.specs.Layout.{headWords, cellWords, head, starts}
 use Rattle.listing.specs.declared.Starts.{Starts}
 
--- which words are right, by place: a cell's two words take turns
+-- "kind, zero bits or range" of the word at place k: of a table
 abbrev pub tableRight : List ℕ → ℕ → Bool
 tableRight l k = isTableWord (getD l k 0)
 
+-- of the cells, from `start` on: a cell's two words take turns
 unfoldable pub isCellWord : ℕ → ℕ → ℕ → ℕ → Bool
 isCellWord strata horizon turn w = cond (eqb turn 0) (isDepthWord strata horizon w) (isAreaWord w)
 
 abbrev pub cellRight : List ℕ → ℕ → ℕ → ℕ → ℕ → Bool
 cellRight l strata horizon start k = isCellWord strata horizon ((k - start) % cellWords) (getD l k 0)
 
+-- of the terms
 abbrev pub termRight : List ℕ → ℕ → ℕ → Bool
 termRight l horizon k = isTermWord horizon (getD l k 0)
 
+-- the term at place k is above the one before
 abbrev pub aboveRight : List ℕ → ℕ → Bool
 aboveRight l k = isAbove (getD l (k - 1) 0) (getD l k 0)
 

@@ -8,6 +8,7 @@ use Rattle.fields.specs.declared.Row.{Row}
 use Rattle.fields.specs.declared.Cell.{Cell}
 use Rattle.listing.specs.declared.Starts.{Starts}
 
+-- words 0 and 1, and their figures by name
 abbrev pub head : List ℕ → Head
 head l = headOf (getD l 0 0) (getD l 1 0)
 

@@ -114,6 +114,7 @@ pub fn head(listing: &[u32]) -> Head
     fields::head_of(listing[0], listing[1])
 }
 
+// Where the parts begin in a listing of these sizes.
 pub fn starts_of(h: Head) -> Starts
     requires { ⌜ HeadRight h ⌝ }
     ensures { λ r. ⌜ r ≡ startsOf h ⌝ }

@@ -9,12 +9,13 @@ use lib.Dec.{leb}
 use lib.ListN.{length, getD, drop, length-drop, drop-of-length-le}
 use lib.Seq.{drop-cons}
 use lib.IntN.{ℤ, pos, natAbs, _+ℤ_, +ℤ-assoc, +ℤ-idl, +ℤ-idr}
-use mir.Syntax.{w64}
+use mir.Syntax.{w32, w64}
 use mir.Val.{SFits, toZ, ofZ}
 use Rattle.words.specs.Bits.{bits, atLeast0}
 use Rattle.words.proofs.Fields.{field-below}
-use Rattle.words.proofs.Signed.{by-test, size-add, size-part, atLeast0-add, add-fits, add-reads, Halved, signed-size, signed-most}
-use Rattle.fields.specs.Fields.{yearOf, termOf, tonnesOf}
+use Rattle.words.proofs.Signed.{by-test, size-add, size-part, atLeast0-add, cast-fits, cast-reads, add-fits, add-reads, Halved, signed-size, signed-most}
+use Rattle.fields.specs.Fields.{yearOf, termOf, tonnesOf, yearlyTerm}
+use Rattle.fields.specs.declared.YearlyTerm.{YearlyTerm}
 use Rattle.listing.specs.Layout.{starts, horizon}
 use Rattle.terms.specs.Terms.{counted, total, termsToDate}
 use Rattle.listing.specs.Accepted.{Accepted}
@@ -24,7 +25,7 @@ use Rattle.listing.specs.Accepted.{Accepted}
 halved : (w : ℕ) → Halved 17 (bits w 16 0) 65536
 halved w = record { some = omega arith; half = refl; below = field-below w 0 17 }
 
-pub tonnes-size : (w : ℕ) → natAbs (tonnesOf w) ≤ 65536
+tonnes-size : (w : ℕ) → natAbs (tonnesOf w) ≤ 65536
 tonnes-size w = signed-size (halved w)
 
 counted-size : (year last w : ℕ) → natAbs (counted year last w) ≤ 65536
@@ -35,15 +36,22 @@ counted-most : (year last w : ℕ) → atLeast0 (counted year last w) ≤ 65535
 unfolding counted atLeast0
 counted-most year last w = by-test (λ z. atLeast0 z ≤ 65535) (leb (yearOf w) year && leb (termOf w) last) (tonnesOf w) (pos 0) (λ e. let h = signed-most (halved w) in omega arith) (λ e. omega arith)
 
--- whether a word counts, where y and t are its fields
-module _ (w year last y t : ℕ) (ey : y ≡ yearOf w) (et : t ≡ termOf w) where
-  pub due : (leb y year && leb t last) ≡ true → tonnesOf w ≡ counted year last w
-  unfolding counted
-  due b = cc
+-- t is what `fields::term_of` answered for the word: its tonnes fit an i64, and whether it counts
+module _ (w : ℕ) (t : YearlyTerm) (e : t ≡ yearlyTerm w) where
+  tonnes : toZ w32 (ofZ w32 (t .tonnes)) ≡ tonnesOf w
+  unfolding yearlyTerm
+  tonnes = cast-reads w32 (tonnesOf w) (ap (λ (u : YearlyTerm). u .tonnes) e) (omega (arith, tonnes-size w))
 
-  pub not-due : (leb y year && leb t last) ≡ false → pos 0 ≡ counted year last w
-  unfolding counted
-  not-due b = cc
+  pub tonnes-fit : SFits w64 (toZ w32 (ofZ w32 (t .tonnes)))
+  tonnes-fit = cast-fits w64 (tonnesOf w) tonnes (omega (arith, tonnes-size w))
+
+  pub due : (year last : ℕ) → (leb (t .year) year && leb (t .term) last) ≡ true → toZ w64 (ofZ w64 (toZ w32 (ofZ w32 (t .tonnes)))) ≡ counted year last w
+  unfolding counted yearlyTerm
+  due year last b = cast-reads w64 (tonnesOf w) tonnes (omega (arith, tonnes-size w)) ∙ rw (rw e at b)
+
+  pub not-due : (year last : ℕ) → (leb (t .year) year && leb (t .term) last) ≡ false → pos 0 ≡ counted year last w
+  unfolding counted yearlyTerm
+  not-due year last b = rw (rw e at b)
 
 -- ---- their sum: a bound on both sides, and one above
 

@@ -1,4 +1,5 @@
--- Document 01, "Book and calls": the yearly terms of a listing to date. N has the terms up to 8, S those up to 5; term 2, peat, is no word of a listing.
+-- Document 01, "Book and calls": the yearly terms of a listing to date. N has the terms up to 8, S those up to 5; term 2, peat, is no
+-- word of a listing.
 use Prim.Native.Nat.{ℕ}
 use mathlib.Core.Bool.{cond, _&&_}
 use mathlib.Core.List.{List, [], _∷_}
@@ -12,6 +13,7 @@ use Rattle.listing.specs.Layout.{starts}
 unfoldable pub counted : ℕ → ℕ → ℕ → ℤ
 counted year last w = cond (leb (yearOf w) year && leb (termOf w) last) (tonnesOf w) (pos 0)
 
+-- f of each word, added up
 unfoldable pub total : (ℕ → ℤ) → List ℕ → ℤ
 total f [] = pos 0
 total f (w ∷ ws) = f w +ℤ total f ws

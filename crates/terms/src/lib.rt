@@ -4,15 +4,14 @@ ghost use Prim.Native.Nat.{_+_, _≤_};
 ghost use lib.ListN.{length, drop};
 ghost use Rattle.listing.specs.Accepted.{Accepted};
 ghost use Rattle.terms.specs.Terms.{counted, total, termsToDate};
-use words::bits;
-use words::signed_bits;
 
 // What a term adds to the terms up to `last` of the years 1 to `year`.
 fn counted(w: u32, year: u32, last: u32) -> i64
     ensures { λ r. ⌜ r ≡ counted year last w ⌝ }
 {
-    if (bits(w, 23, 17) <= year) & (bits(w, 27, 24) <= last) {
-        return signed_bits(w, 16, 0) as i64;
+    let t = fields::term_of(w);
+    if (t.year <= year) & (t.term <= last) {
+        return t.tonnes as i64;
     }
     0
 }

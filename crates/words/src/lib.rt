@@ -5,46 +5,67 @@ ghost use Prim.Native.Nat.{_+_, _^_, _<_, _≤_};
 ghost use Rattle.words.specs.Bits.{bits, signedBits, isKind, within, wordOf, Named};
 ghost use Rattle.words.specs.Answers.{refused, outcome};
 
-// The numbers of document 01, "Where a call stops". Checked at the listing:
-pub const TOO_FEW_WORDS: u32 = 1; // fewer than 2 words; place 0
+// The numbers of document 01, "Where a call stops", in the order of its table.
 
-pub const HEAD_WORD: u32 = 2; // word 0 or 1: kind, zero bits or range; its index
+// Listing: fewer than 2 words; place 0.
+pub const TOO_FEW_WORDS: u32 = 1;
 
-pub const LISTING_SHORT: u32 = 3; // fewer words than its sizes ask for; its length
+// Word 0 or 1: kind, zero bits or range; its index.
+pub const HEAD_WORD: u32 = 2;
 
-pub const LATER_WORD: u32 = 4; // later word: kind, zero bits or range; its index
+// Fewer words than strata × horizon + 2 × cells + 2; its length.
+pub const LISTING_SHORT: u32 = 3;
 
-pub const TERM_NOT_ABOVE: u32 = 5; // term not above the one before; the later index
-// Checked at the buffers and the book:
-pub const BOOK_SHORT: u32 = 6; // book below 2 + 3 × cells words; its length
+// Later word: kind, zero bits or range; its index.
+pub const LATER_WORD: u32 = 4;
 
-pub const LINES_SHORT: u32 = 7; // lines below 3 × cells words; its length
+// Term not above the one before; the later index.
+pub const TERM_NOT_ABOVE: u32 = 5;
 
-pub const BOOK_WORD: u32 = 8; // a word of the book is wrong; its index
-// Checked at the call:
-pub const HORIZON_REACHED: u32 = 9; // close at the horizon; place 0
+// Buffers: book below 2 + 3 × cells words; its length.
+pub const BOOK_SHORT: u32 = 6;
 
-pub const NO_SUCH_CELL: u32 = 10; // no such cell; place 0
+// Lines below 3 × cells words (close); its length.
+pub const LINES_SHORT: u32 = 7;
 
-pub const CELL_WITHDRAWN: u32 = 11; // cell withdrawn; place 0
+// Book: word wrong; its index.
+pub const BOOK_WORD: u32 = 8;
 
-pub const CELL_CONVERTED: u32 = 12; // plan year from 1 to current; place 0
+// Call: close at the horizon; place 0.
+pub const HORIZON_REACHED: u32 = 9;
 
-pub const YEAR_NOT_AHEAD: u32 = 13; // new year neither 0 nor current + 1 to horizon; place 0
+// No such cell (replan, withdraw, statement); place 0.
+pub const NO_SUCH_CELL: u32 = 10;
 
-pub const LINE_TOO_LARGE: u32 = 14; // a kg line above 268,435,455; the cell
+// Cell withdrawn (replan, withdraw); place 0.
+pub const CELL_WITHDRAWN: u32 = 11;
 
-pub const OUTPUT_SHORT: u32 = 15; // forecast's output below horizon numbers; its length
-// Checked at a reading and at a pool list:
-pub const NOT_FINITE: u32 = 16; // a NaN or an infinity; 0 or 1
+// Plan year from 1 to current (replan); place 0.
+pub const CELL_CONVERTED: u32 = 12;
 
-pub const OUT_OF_RANGE: u32 = 17; // a reading out of range; 0, 1 or 2
+// New year neither 0 nor current + 1 to horizon; place 0.
+pub const YEAR_NOT_AHEAD: u32 = 13;
 
-pub const READING_MISSING: u32 = 18; // a missing reading; place 0
+// A kg line above 268,435,455 (close); the cell.
+pub const LINE_TOO_LARGE: u32 = 14;
 
-pub const LIST_LENGTHS: u32 = 19; // list lengths unequal or not 1–5; place 0
+// Forecast: output below horizon numbers; its length.
+pub const OUTPUT_SHORT: u32 = 15;
 
-pub const VALUE_TOO_LARGE: u32 = 20; // a value above 20,000; the list, 0–3
+// Reading: not finite; 0 or 1.
+pub const NOT_FINITE: u32 = 16;
+
+// Out of range; 0, 1 or 2.
+pub const OUT_OF_RANGE: u32 = 17;
+
+// Missing; place 0.
+pub const READING_MISSING: u32 = 18;
+
+// Discount: list lengths unequal or not 1–5; place 0.
+pub const LIST_LENGTHS: u32 = 19;
+
+// A value above 20,000; the list, 0–3.
+pub const VALUE_TOO_LARGE: u32 = 20;
 
 // Why a call is refused, and where.
 pub struct Refusal {
@@ -58,6 +79,7 @@ pub enum Outcome {
     Refused(Refusal),
 }
 
+// The refusal as an outcome.
 pub fn refuse(number: u32, place: usize) -> Outcome
     ensures { λ r. ⌜ outcome r ≡ refused number place ⌝ }
 {
@@ -85,6 +107,7 @@ pub fn signed_bits(w: u32, high: u32, low: u32) -> i32
     x as i32 - half as i32 - half as i32
 }
 
+// Whether `w` is of a kind, by its bits 31 to 28.
 pub fn is_kind(w: u32, kind: u32) -> bool
     ensures { λ r. ⌜ r ≡ isKind kind w ⌝ }
 {

@@ -1,0 +1,13 @@
+-- `fields::term_of` meets its contract: each figure is its field of the word. Assumes nothing.
+use borrow.Author.Needs.{needs}
+use mir.Syntax.{w32}
+use Rattle.words.proofs.Signed.{call-reads}
+use Rattle.fields.specs.Fields.{yearlyTerm}
+use Rattle.fields.proofs.term_of.Statement.{statement}
+use Rattle.fields.proofs.term_of.Tie as tie
+
+pub term-of-spec : {M : Type 1} → statement M
+unfolding yearlyTerm
+term-of-spec =
+    tie.close
+    (tie.spec (λ c κs. search needs) (λ c κs. search needs) (λ c κs. search needs) (λ c. cc (call-reads w32 (c .signed-bits .ok) (c .signed-bits .ensures))))
