@@ -1,6 +1,6 @@
 -- The terms, one word at a time, and how large their sums can be. Assumes nothing.
 use mathlib.Core.Path.{_≡_, refl, sym, ap, _∙_}
-use mathlib.Core.Bool.{Bool, true, false, cond, _&&_}
+use mathlib.Core.Bool.{true, false, _&&_}
 use mathlib.Core.List.{List, [], _∷_}
 use Prim.Native.Nat.{ℕ, suc, _+_, _*_, _^_, _≤_, _<_}
 use native.Mathlib.Numerals.{add-one}
@@ -16,7 +16,7 @@ use Rattle.words.proofs.Fields.{field-below}
 use Rattle.words.proofs.Signed.{by-test, size-add, size-part, atLeast0-add, cast-fits, cast-reads, add-fits, add-reads, Halved, signed-size, signed-most}
 use Rattle.fields.specs.Fields.{yearOf, termOf, tonnesOf, yearlyTerm}
 use Rattle.fields.specs.declared.YearlyTerm.{YearlyTerm}
-use Rattle.listing.specs.Layout.{starts, horizon}
+use Rattle.listing.specs.Layout.{starts}
 use Rattle.terms.specs.Terms.{counted, total, termsToDate}
 use Rattle.listing.specs.Accepted.{Accepted}
 
@@ -28,13 +28,17 @@ halved w = record { some = omega arith; half = refl; below = field-below w 0 17 
 tonnes-size : (w : ℕ) → natAbs (tonnesOf w) ≤ 65536
 tonnes-size w = signed-size (halved w)
 
-counted-size : (year last w : ℕ) → natAbs (counted year last w) ≤ 65536
+-- a word adds its tonnes or nothing
+counted-is : (P : ℤ → Type 0) (year last w : ℕ) → P (tonnesOf w) → P (pos 0) → P (counted year last w)
 unfolding counted
-counted-size year last w = by-test (λ z. natAbs z ≤ 65536) (leb (yearOf w) year && leb (termOf w) last) (tonnesOf w) (pos 0) (λ e. tonnes-size w) (λ e. omega arith)
+counted-is P year last w p q = by-test P (leb (yearOf w) year && leb (termOf w) last) (tonnesOf w) (pos 0) (λ e. p) (λ e. q)
+
+counted-size : (year last w : ℕ) → natAbs (counted year last w) ≤ 65536
+counted-size year last w = counted-is (λ z. natAbs z ≤ 65536) year last w (tonnes-size w) (omega arith)
 
 counted-most : (year last w : ℕ) → atLeast0 (counted year last w) ≤ 65535
-unfolding counted atLeast0
-counted-most year last w = by-test (λ z. atLeast0 z ≤ 65535) (leb (yearOf w) year && leb (termOf w) last) (tonnesOf w) (pos 0) (λ e. let h = signed-most (halved w) in omega arith) (λ e. omega arith)
+unfolding atLeast0
+counted-most year last w = counted-is (λ z. atLeast0 z ≤ 65535) year last w (let h = signed-most (halved w) in omega arith) (omega arith)
 
 -- t is what `fields::term_of` answered for the word: its tonnes fit an i64, and whether it counts
 module _ (w : ℕ) (t : YearlyTerm) (e : t ≡ yearlyTerm w) where
@@ -53,30 +57,28 @@ module _ (w : ℕ) (t : YearlyTerm) (e : t ≡ yearlyTerm w) where
   unfolding counted yearlyTerm
   not-due year last b = rw (rw e at b)
 
--- ---- their sum: a bound on both sides, and one above
+-- ---- their sum, by a size that a sum does not exceed: natAbs for a bound on both sides, atLeast0 for one above
 
-total-size : (f : ℕ → ℤ) (m : ℕ) → ((w : ℕ) → natAbs (f w) ≤ m) → (ws : List ℕ) → natAbs (total f ws) ≤ m * length ws
+total-bound : (size : ℤ → ℕ) → size (pos 0) ≡ 0 → ((x y : ℤ) → size (x +ℤ y) ≤ size x + size y) →
+    (f : ℕ → ℤ) (m : ℕ) → ((w : ℕ) → size (f w) ≤ m) → (ws : List ℕ) → size (total f ws) ≤ m * length ws
 unfolding total
-total-size f m h [] = omega arith
-total-size f m h (w ∷ ws) = omega (arith, size-add (f w) (total f ws), h w, total-size f m h ws)
-
-total-most : (f : ℕ → ℤ) (m : ℕ) → ((w : ℕ) → atLeast0 (f w) ≤ m) → (ws : List ℕ) → atLeast0 (total f ws) ≤ m * length ws
-unfolding total atLeast0
-total-most f m h [] = omega arith
-total-most f m h (w ∷ ws) = omega (arith, atLeast0-add (f w) (total f ws), h w, total-most f m h ws)
+total-bound size none add f m h [] = omega arith
+total-bound size none add f m h (w ∷ ws) = omega (arith, add (f w) (total f ws), h w, total-bound size none add f m h ws)
 
 from-size : (l : List ℕ) (start year last : ℕ) → length l ≤ start + 700 → natAbs (total (counted year last) (drop start l)) ≤ 45875200
-from-size l start year last h = omega (arith, total-size (counted year last) 65536 (counted-size year last) (drop start l), length-drop start l)
+from-size l start year last h = omega (arith, total-bound natAbs refl size-add (counted year last) 65536 (counted-size year last) (drop start l), length-drop start l)
 
 module _ (l : List ℕ) (year last : ℕ) (a : Accepted l) where
+  few : length l ≤ starts l .terms + 700
+  few = let h = a .few in let k = a .head-right .horizon in omega arith
+
   pub terms-size : natAbs (termsToDate l year last) ≤ 45875200
-  terms-size = let h = a .few in let k = a .head-right .horizon in from-size l (starts l .terms) year last (omega arith)
+  terms-size = from-size l (starts l .terms) year last few
 
   pub terms-most : atLeast0 (termsToDate l year last) ≤ 45874500
+  unfolding atLeast0
   terms-most =
-      let h = a .few in
-      let k = a .head-right .horizon in
-      omega (arith, total-most (counted year last) 65535 (counted-most year last) (drop (starts l .terms) l), length-drop (starts l .terms) l)
+      omega (arith, total-bound atLeast0 refl atLeast0-add (counted year last) 65535 (counted-most year last) (drop (starts l .terms) l), length-drop (starts l .terms) l, few)
 
 -- ---- a sum from word `start` on has come to word `at` and to x: x and what is left make the whole
 pub record Part (year last : ℕ) (l : List ℕ) (start at : ℕ) (x : ℤ) : Type 0 where

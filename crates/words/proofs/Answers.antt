@@ -7,7 +7,7 @@ use lib.Dec.{ltb, leb}
 use borrow.Author.Tests.{lt-ltb, le-ltb, lt-leb, le-leb, ltb-false, leb-true, not-true, not-false}
 use Rattle.words.specs.Bits.{within}
 use Rattle.words.specs.Search.{firstWrong}
-use Rattle.words.specs.Answers.{Answer, accepted, refused, need, unfound, every}
+use Rattle.words.specs.Answers.{Answer, refused, need, unfound, every}
 use Rattle.words.proofs.Meaning.{right-before}
 
 -- ---- forwards: v is what a function returns, as an answer

@@ -1,7 +1,7 @@
 // What every crate of the ledger is made of: a 32-bit word with its kind and its bits, and the
 // refusal of a call with its number and its place.
 ghost use mathlib.Core.Path.{_≡_};
-ghost use Prim.Native.Nat.{_+_, _^_, _<_, _≤_};
+ghost use Prim.Native.Nat.{_^_, _<_};
 ghost use Rattle.words.specs.Bits.{bits, signedBits, isKind, within, wordOf, Named};
 ghost use Rattle.words.specs.Answers.{refused, outcome};
 
