@@ -6,4 +6,4 @@ use Rattle.words.proofs.between.Tie as tie
 
 pub between-spec : {M : Type 1} → statement M
 unfolding within
-between-spec = tie.close (tie.spec (λ c κs. search needs) (λ c. cc))
+between-spec = tie.close (tie.spec (λ c κs. search needs) (λ c. rw (c .bits .ensures)))

@@ -6,4 +6,4 @@ use Rattle.words.proofs.is_kind.Tie as tie
 
 pub is-kind-spec : {M : Type 1} → statement M
 unfolding isKind
-is-kind-spec = tie.close (tie.spec (λ c κs. search needs) (λ c. cc))
+is-kind-spec = tie.close (tie.spec (λ c κs. search needs) (λ c. rw (c .bits .ensures)))
