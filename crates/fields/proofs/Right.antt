@@ -10,7 +10,7 @@ use Rattle.words.specs.Bits.{within}
 use Rattle.words.proofs.Answers.{and-left, and-right, within-least, within-most}
 use Rattle.fields.specs.Fields.{cellsOf, strataOf, horizonOf, bufferOf, warmingOf, methaneOf, stratumOf, conversionOf, enteredOf, areaOf, densityOf, termOf, yearOf, headOf, rowOf, cellOf}
 use Rattle.fields.specs.Words.{mostCells, mostStrata, mostHorizon, isSizeWord, isFigureWord, isDepthWord, isAreaWord, isTermWord, isAbove}
-use Rattle.fields.specs.Right.{HeadRight, RowRight, CellRight, TermRight}
+use Rattle.fields.specs.Right.{HeadRight, RowRight, CellRight, Listed, TermRight}
 
 pub head-right : (w v : ℕ) → isSizeWord w ≡ true → isFigureWord v ≡ true → HeadRight (headOf w v)
 unfolding isSizeWord isFigureWord headOf
@@ -69,17 +69,11 @@ term-right horizon w h =
 abbrev numbered : ℕ → ℕ → ℕ
 numbered year term = 7 * (year - 1) + (term - 2)
 
-abbrev Term : ℕ → Type 0
-Term t = (t ≡ 1) ⊎ ((3 ≤ t) × (t ≤ 8))
+one-of-seven : (term : ℕ) → Listed term → term - 2 < 7
+one-of-seven term l = ⊎-elim (λ (e : term ≡ 1). omega arith) (λ (e : (3 ≤ term) × (term ≤ 8)). omega arith) l
 
-numbered-below : (horizon year term : ℕ) → Term term → (1 ≤ year) × (year ≤ horizon) → numbered year term < 7 * horizon
-numbered-below horizon year term t y = ⊎-elim (λ (e : term ≡ 1). omega arith) (λ (e : (3 ≤ term) × (term ≤ 8)). omega arith) t
-
-later-year : (y s z t : ℕ) → Term s → 1 ≤ y → y < z → numbered y s < numbered z t
-later-year y s z t p h k = ⊎-elim (λ (e : s ≡ 1). omega arith) (λ (e : (3 ≤ s) × (s ≤ 8)). omega arith) p
-
-higher-term : (y s t : ℕ) → Term s → Term t → s < t → numbered y s < numbered y t
-higher-term y s t p q h =
+higher-term : (year s t : ℕ) → Listed s → Listed t → s < t → numbered year s < numbered year t
+higher-term year s t p q h =
     ⊎-elim
     (λ (f : t ≡ 1). ⊎-elim (λ (e : s ≡ 1). absurd (omega arith)) (λ (e : (3 ≤ s) × (s ≤ 8)). absurd (omega arith)) p)
     (λ (f : (3 ≤ t) × (t ≤ 8)). ⊎-elim (λ (e : s ≡ 1). omega arith) (λ (e : (3 ≤ s) × (s ≤ 8)). omega arith) p)
@@ -90,7 +84,9 @@ number w = numbered (yearOf w) (termOf w)
 
 pub number-below : (horizon w : ℕ) → TermRight horizon w → number w < 7 * horizon
 unfolding number
-number-below horizon w r = numbered-below horizon (yearOf w) (termOf w) (r .term) (r .year)
+number-below horizon w r =
+    let year = r .year in
+    omega (arith, one-of-seven (termOf w) (r .term))
 
 -- it rises where the terms do
 pub number-above : (horizon before w : ℕ) → TermRight horizon before → TermRight horizon w → isAbove before w ≡ true → number before < number w
@@ -101,7 +97,9 @@ number-above horizon before w p q h =
     let s = termOf before in
     let t = termOf w in
     ⊎-elim
-    (λ (e : ltb y z ≡ true). later-year y s z t (p .term) (p .year .0) (ltb-true y z e))
+    (λ (e : ltb y z ≡ true).
+    let first = p .year .0 in
+    omega (arith, ltb-true y z e, one-of-seven s (p .term)))
     (λ (e : (eqb y z && ltb s t) ≡ true).
     rw (eqb-true y z (and-left (eqb y z) (ltb s t) e)) (higher-term z s t (p .term) (q .term) (ltb-true s t (and-right (eqb y z) (ltb s t) e))))
     (either (ltb y z) (eqb y z && ltb s t) h)

@@ -31,7 +31,11 @@ pub record CellRight (strata horizon : ℕ) (c : Cell) : Type 0 where
   pub area : (1 ≤ c .area) × (c .area ≤ 10000)
   pub density : (1 ≤ c .density) × (c .density ≤ 2400)
 
+-- a term that a listing may have
+abbrev pub Listed : ℕ → Type 0
+Listed term = (term ≡ 1) ⊎ ((3 ≤ term) × (term ≤ 8))
+
 -- a term's word
 pub record TermRight (horizon w : ℕ) : Type 0 where
-  pub term : (termOf w ≡ 1) ⊎ ((3 ≤ termOf w) × (termOf w ≤ 8))
+  pub term : Listed (termOf w)
   pub year : (1 ≤ yearOf w) × (yearOf w ≤ horizon)

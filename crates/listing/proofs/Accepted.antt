@@ -53,33 +53,31 @@ turn-area strata horizon turn w e q = rw (ne-eqb turn 0 (λ z. omega arith)) at 
 
 -- ---- the terms
 
--- a term's number is at least its place among the terms, since the numbers rise
-number-least : (l : List ℕ) (horizon start : ℕ) →
-    ((k : ℕ) → start ≤ k → k < length l → TermRight horizon (getD l k 0)) →
-    ((k : ℕ) → start + 1 ≤ k → k < length l → isAbove (getD l (k - 1) 0) (getD l k 0) ≡ true) →
-    (j : ℕ) → start + j < length l → j ≤ number (getD l (start + j) 0)
-number-least l horizon start right above zero h = omega arith
-number-least l horizon start right above (suc j) h =
-    let e : start + suc j - 1 ≡ start + j = omega arith in
-    let before : TermRight horizon (getD l (start + j) 0) = right (start + j) (omega arith) (omega arith) in
-    let here = right (start + suc j) (omega arith) h in
-    let up = rw e at (above (start + suc j) (omega arith) h) in
-    let least = number-least l horizon start right above j (omega arith) in
-    let rises = number-above horizon (getD l (start + j) 0) (getD l (start + suc j) 0) before here up in
-    omega arith
+module _ (l : List ℕ) (horizon start : ℕ)
+    (right : (k : ℕ) → start ≤ k → k < length l → TermRight horizon (getD l k 0))
+    (rising : (k : ℕ) → start + 1 ≤ k → k < length l → isAbove (getD l (k - 1) 0) (getD l k 0) ≡ true) where
+  -- a term's number is at least its place among the terms, since the numbers rise
+  number-least : (j : ℕ) → start + j < length l → j ≤ number (getD l (start + j) 0)
+  number-least zero h = omega arith
+  number-least (suc j) h =
+      let e : start + suc j - 1 ≡ start + j = omega arith in
+      let before : TermRight horizon (getD l (start + j) 0) = right (start + j) (omega arith) (omega arith) in
+      let here = right (start + suc j) (omega arith) h in
+      let up = rw e at (rising (start + suc j) (omega arith) h) in
+      let least = number-least j (omega arith) in
+      let more = number-above horizon (getD l (start + j) 0) (getD l (start + suc j) 0) before here up in
+      omega arith
 
-few-terms : (l : List ℕ) (horizon start : ℕ) →
-    ((k : ℕ) → start ≤ k → k < length l → TermRight horizon (getD l k 0)) →
-    ((k : ℕ) → start + 1 ≤ k → k < length l → isAbove (getD l (k - 1) 0) (getD l k 0) ≡ true) →
-    length l ≤ start + 7 * horizon
-few-terms l horizon start right above =
-    let most : length l < suc (start + 7 * horizon) =
-    lt-of-not-le
-    (λ (h : suc (start + 7 * horizon) ≤ length l).
-    let least = number-least l horizon start right above (7 * horizon) h in
-    let below = number-below horizon (getD l (start + 7 * horizon) 0) (right (start + 7 * horizon) (omega arith) h) in
-    omega arith) in
-    omega arith
+  -- and a number is below 7 for each year
+  few-terms : length l ≤ start + 7 * horizon
+  few-terms =
+      let most : length l < suc (start + 7 * horizon) =
+      lt-of-not-le
+      (λ (h : suc (start + 7 * horizon) ≤ length l).
+      let least = number-least (7 * horizon) h in
+      let below = number-below horizon (getD l (start + 7 * horizon) 0) (right (start + 7 * horizon) (omega arith) h) in
+      omega arith) in
+      omega arith
 
 -- ---- all of it
 
@@ -113,6 +111,13 @@ accepted l h =
 pub accepted-done : (l : List ℕ) (v : Outcome) → outcome v ≡ checked l → v ≡ Done → Accepted l
 accepted-done l v e d = accepted l (ap (λ (a : Answer). a .number) (sym e ∙ ap outcome d))
 
+-- at most 700 terms
+pub terms-few : (l : List ℕ) → Accepted l → length l ≤ starts l .terms + 700
+terms-few l a =
+    let few = a .few in
+    let horizon = a .head-right .horizon in
+    omega arith
+
 -- ---- of an accepted listing, with h and s what `head` and `starts_of` answered
 
 pub head-by : (l : List ℕ) (h : Head) → h ≡ head l → Accepted l → HeadRight h
@@ -137,8 +142,4 @@ module _ (l : List ℕ) (h : Head) (s : Starts) (e : h ≡ head l) (f : s ≡ st
 
   -- the terms end at most 700 words on
   pub terms-by : (s .terms ≡ starts l .terms) × (s .terms ≤ length l) × (length l ≤ s .terms + 700)
-  terms-by =
-      let long = a .long in
-      let few = a .few in
-      let horizon = a .head-right .horizon in
-      (rw starts-by, rw starts-by long, rw starts-by (omega arith))
+  terms-by = rw starts-by (refl, a .long, terms-few l a)

@@ -19,6 +19,7 @@ use Rattle.fields.specs.declared.YearlyTerm.{YearlyTerm}
 use Rattle.listing.specs.Layout.{starts}
 use Rattle.terms.specs.Terms.{counted, total, termsToDate}
 use Rattle.listing.specs.Accepted.{Accepted}
+use Rattle.listing.proofs.Accepted.{terms-few}
 
 -- ---- one word
 
@@ -69,16 +70,13 @@ from-size : (l : List ℕ) (start year last : ℕ) → length l ≤ start + 700 
 from-size l start year last h = omega (arith, total-bound natAbs refl size-add (counted year last) 65536 (counted-size year last) (drop start l), length-drop start l)
 
 module _ (l : List ℕ) (year last : ℕ) (a : Accepted l) where
-  few : length l ≤ starts l .terms + 700
-  few = let h = a .few in let k = a .head-right .horizon in omega arith
-
   pub terms-size : natAbs (termsToDate l year last) ≤ 45875200
-  terms-size = from-size l (starts l .terms) year last few
+  terms-size = from-size l (starts l .terms) year last (terms-few l a)
 
   pub terms-most : atLeast0 (termsToDate l year last) ≤ 45874500
   unfolding atLeast0
   terms-most =
-      omega (arith, total-bound atLeast0 refl atLeast0-add (counted year last) 65535 (counted-most year last) (drop (starts l .terms) l), length-drop (starts l .terms) l, few)
+      omega (arith, total-bound atLeast0 refl atLeast0-add (counted year last) 65535 (counted-most year last) (drop (starts l .terms) l), length-drop (starts l .terms) l, terms-few l a)
 
 -- ---- a sum from word `start` on has come to word `at` and to x: x and what is left make the whole
 pub record Part (year last : ℕ) (l : List ℕ) (start at : ℕ) (x : ℤ) : Type 0 where
