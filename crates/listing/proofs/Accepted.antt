@@ -81,7 +81,7 @@ module _ (l : List ℕ) (horizon start : ℕ)
 
 -- ---- all of it
 
-pub accepted : (l : List ℕ) → checked l .number ≡ 0 → Accepted l
+pub accepted : (l : List ℕ) → checked l .done ≡ true → Accepted l
 unfolding checked laterChecked
 accepted l h =
     let h₁ = need-says _ _ _ _ h in
@@ -109,7 +109,7 @@ accepted l h =
 
 -- the same where the call answered `Done`
 pub accepted-done : (l : List ℕ) (v : Outcome) → outcome v ≡ checked l → v ≡ Done → Accepted l
-accepted-done l v e d = accepted l (ap (λ (a : Answer). a .number) (sym e ∙ ap outcome d))
+accepted-done l v e d = accepted l (ap (λ (a : Answer). a .done) (sym e ∙ ap outcome d))
 
 -- at most 700 terms
 pub terms-few : (l : List ℕ) → Accepted l → length l ≤ starts l .terms + 700

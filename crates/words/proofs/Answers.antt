@@ -2,13 +2,18 @@
 use mathlib.Core.Path.{_≡_, refl, sym, ap, _∙_}
 use mathlib.Core.Bool.{Bool, true, false, cond, not, _&&_, false≢true}
 use Prim.Native.Nat.{ℕ, suc, _<_, _≤_}
+use native.Mathlib.Nat.{le-refl}
 use native.Mathlib.Omega.{arith}
 use lib.Dec.{ltb, leb}
 use borrow.Author.Tests.{lt-ltb, le-ltb, lt-leb, le-leb, ltb-false, leb-true, not-true, not-false}
 use Rattle.words.specs.Bits.{within}
 use Rattle.words.specs.Search.{firstWrong}
-use Rattle.words.specs.Answers.{Answer, refused, need, unfound, every}
-use Rattle.words.proofs.Meaning.{right-before}
+use Rattle.words.specs.Answers.{Answer, refused, outcome, need, unfound, every, after}
+use Rattle.words.specs.declared.Refusal.{Refusal}
+use Rattle.words.specs.declared.Outcome.{Outcome}
+use Rattle.words.specs.declared.Outcome.the-variants.{Done, Refused}
+use Rattle.words.proofs.Meaning.{right-before, first-only}
+use Rattle.words.proofs.Signed.{by-test}
 
 -- ---- forwards: v is what a function returns, as an answer
 
@@ -39,32 +44,61 @@ unfolding unfound
 found-none n place p end next v e h q =
     q ∙ ap (λ (b : Bool). cond b (refused n place) next) (sym (le-ltb place end h)) ∙ ap (λ (x : ℕ). cond (ltb x end) (refused n x) next) e
 
--- what a return's answer is found from
-pub ruleset answers = (need-bad, need-next, said-no, said-yes, found, found-none, lt-leb, le-leb, lt-ltb, le-ltb)
+-- the tests before, whose outcome is o: refused, and passed
+pub after-bad : (o : Outcome) (before next : Answer) (r : Refusal) → outcome o ≡ before → o ≡ Refused r → outcome (Refused r) ≡ after before next
+unfolding after
+after-bad o before next r e d = ap (λ (a : Answer). cond (a .done) next a) (ap outcome (sym d) ∙ e)
 
--- ---- backwards: an answer whose number is 0 failed no test
+pub after-done : (o : Outcome) (before next v : Answer) → outcome o ≡ before → o ≡ Done → v ≡ next → v ≡ after before next
+unfolding after
+after-done o before next v e d q = q ∙ ap (λ (a : Answer). cond (a .done) next a) (ap outcome (sym d) ∙ e)
+
+-- what a return's answer is found from
+pub ruleset answers = (need-bad, need-next, said-no, said-yes, found, found-none, after-bad, after-done, lt-leb, le-leb, lt-ltb, le-ltb)
+
+-- ---- backwards: an answer that is accepted failed no test
 
 module _ (n : ℕ) (k : ℕ) (next : Answer) where
-  pub need-says : (ok : Bool) → need ok (suc n) k next .number ≡ 0 → (ok ≡ true) × (next .number ≡ 0)
+  pub need-says : (ok : Bool) → need ok n k next .done ≡ true → (ok ≡ true) × (next .done ≡ true)
   unfolding need
   need-says true h = (refl, h)
-  need-says false h = absurd (omega arith)
+  need-says false h = absurd (false≢true h)
 
-unfound-says : (n place end : ℕ) (next : Answer) → unfound (suc n) place end next .number ≡ 0 → (end ≤ place) × (next .number ≡ 0)
+unfound-says : (n place end : ℕ) (next : Answer) → unfound n place end next .done ≡ true → (end ≤ place) × (next .done ≡ true)
 unfolding unfound
 unfound-says n place end next h = case (ltb place end) refl h
   where
-    case : (b : Bool) → ltb place end ≡ b → cond b (refused (suc n) place) next .number ≡ 0 → (end ≤ place) × (next .number ≡ 0)
-    case true e h = absurd (omega arith)
+    case : (b : Bool) → ltb place end ≡ b → cond b (refused n place) next .done ≡ true → (end ≤ place) × (next .done ≡ true)
+    case true e h = absurd (false≢true h)
     case false e h = (ltb-false place end e, h)
 
 -- each place of a search that found nothing is right
-pub every-says : (n : ℕ) (right : ℕ → Bool) (from to : ℕ) (next : Answer) → every (suc n) right from to next .number ≡ 0 →
-    ((k : ℕ) → from ≤ k → k < to → right k ≡ true) × (next .number ≡ 0)
+pub every-says : (n : ℕ) (right : ℕ → Bool) (from to : ℕ) (next : Answer) → every n right from to next .done ≡ true →
+    ((k : ℕ) → from ≤ k → k < to → right k ≡ true) × (next .done ≡ true)
 every-says n right from to next e =
     let s = unfound-says n (firstWrong right from to) to next e in
     let le = s .0 in
     ((λ k p q. right-before right from to k p (omega arith)), s .1)
+
+module _ (next : Answer) where
+  pub after-says : (before : Answer) → after before next .done ≡ true → (before .done ≡ true) × (next .done ≡ true)
+  unfolding after
+  after-says before h = by-test (λ (a : Answer). a .done ≡ true → (before .done ≡ true) × (next .done ≡ true)) (before .done) next before (λ e h. (e, h)) (λ e h. absurd (false≢true (sym e ∙ h))) h
+
+  pub after-is : (before : Answer) → before .done ≡ true → next ≡ after before next
+  unfolding after
+  after-is before e = ap (λ (b : Bool). cond b next before) (sym e)
+
+-- and the other way round: tests that hold are passed
+pub need-is : (ok : Bool) (n k : ℕ) (next : Answer) → ok ≡ true → next ≡ need ok n k next
+need-is ok n k next e = need-next ok n k next next e refl
+
+pub every-is : (n : ℕ) (right : ℕ → Bool) (from to : ℕ) (next : Answer) → from ≤ to → ((k : ℕ) → from ≤ k → k < to → right k ≡ true) → next ≡ every n right from to next
+every-is n right from to next le h =
+    found-none n to (firstWrong right from to) to next next
+    (first-only right from to to (record { low = le; high = le-refl to; before = h; wrong = λ lt. absurd (omega arith) }))
+    (le-refl to)
+    refl
 
 -- ---- a conjunction of tests
 

@@ -4,3 +4,4 @@ pub mod Signed
 pub mod Steps
 pub mod Meaning
 pub mod Answers
+pub mod Blocks

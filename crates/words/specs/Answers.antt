@@ -1,6 +1,6 @@
 -- What a call answers, in document 01's own numbers, put together from tests: the first that fails is the answer.
 use Prim.Native.Nat.{ℕ}
-use mathlib.Core.Bool.{Bool, cond}
+use mathlib.Core.Bool.{Bool, true, false, cond}
 use lib.Dec.{ltb}
 use Rattle.words.specs.Search.{firstWrong}
 use Rattle.words.specs.declared.Outcome.{Outcome}
@@ -8,15 +8,16 @@ use Rattle.words.specs.declared.Outcome.the-variants.{Done, Refused}
 
 -- an accepted call answers number 0 at place 0 and its value; a refused one its number and place and the value 0
 pub record Answer : Type 0 where
+  pub done : Bool
   pub number : ℕ
   pub place : ℕ
   pub value : ℕ
 
 abbrev pub accepted : ℕ → Answer
-accepted v = record { number = 0; place = 0; value = v }
+accepted v = record { done = true; number = 0; place = 0; value = v }
 
 abbrev pub refused : ℕ → ℕ → Answer
-refused n k = record { number = n; place = k; value = 0 }
+refused n k = record { done = false; number = n; place = k; value = 0 }
 
 -- the cases of an outcome; it has no value
 abbrev pub outcome : Outcome → Answer
@@ -34,3 +35,7 @@ unfound n place end next = cond (ltb place end) (refused n place) next
 -- refusal n at the first place from `from` up to but not `to` that is not right, and `next` where all are right
 abbrev pub every : ℕ → (ℕ → Bool) → ℕ → ℕ → Answer → Answer
 every n right from to next = unfound n (firstWrong right from to) to next
+
+-- a refusal of the tests before, and `next` where they were passed
+unfoldable pub after : Answer → Answer → Answer
+after before next = cond (before .done) next before

@@ -3,3 +3,4 @@ pub mod Bits
 pub mod Search
 pub mod Refusals
 pub mod Answers
+pub mod Blocks
