@@ -1,0 +1,2 @@
+-- What the contracts of closing, and of the crates above it, cite.
+pub mod Closing

@@ -1,0 +1,195 @@
+-- Document 01, "Lists of calls": what holds after every list of calls on one listing l and its book. The figures of the claims are read off
+-- the listing and off what the calls handed out, and not off the book. `EveryList`, at the end, is the theorem; proofs/EveryList.antt proves it.
+use mathlib.Core.Path.{_≡_}
+use mathlib.Core.Bool.{true, cond}
+use mathlib.Core.List.{List, [], _∷_}
+use Prim.Native.Nat.{ℕ, suc, _+_, _*_, _≤_, _<_, max}
+use lib.Dec.{eqb}
+use lib.IntN.{ℤ}
+use lib.ListN.{getD}
+use Rattle.words.specs.Bits.{atLeast0}
+use Rattle.listing.specs.Layout.{head, cells, guard, row, cell}
+use Rattle.year.specs.Year.{unconverted, age, drained, emission}
+use Rattle.book.specs.Layout.{lineWords, number, year, issued, entry}
+use Rattle.book.specs.Check.{admittedOnly}
+use Rattle.balance.specs.Balance.{balance}
+use Rattle.ledger.specs.Calls.{Left, LeftLines, leavesLines, opening, closing, replanning, withdrawing, issuing, stating}
+
+-- ---- a list of calls
+
+-- a call with whatever arguments the caller gives: any lines buffer, any cell, any year
+pub data Call : Type 0 where
+  Close : List ℕ → Call
+  Replan : ℕ → ℕ → Call
+  Withdraw : ℕ → Call
+  Issue : Call
+
+-- what it answers and leaves, by the definitions that the contracts cite; only a closing has lines
+abbrev pub noLines : Left → LeftLines
+noLines m = leavesLines (m .answer) (m .book) []
+
+abbrev pub step : List ℕ → List ℕ → Call → LeftLines
+step l b (Close x) = closing l b x
+step l b (Replan i y) = noLines (replanning l b i y)
+step l b (Withdraw i) = noLines (withdrawing l b i)
+step l b Issue = noLines (issuing l b)
+
+-- what a call handed out: the lines of an accepted closing, the new plan year of an accepted replan, the tonnes of an accepted issue;
+-- a refused call hands out none
+pub data Event : Type 0 where
+  Lines : List ℕ → Event
+  Planned : ℕ → ℕ → Event
+  Paid : ℕ → Event
+  Nothing : Event
+
+abbrev pub event : Call → LeftLines → Event
+event (Close x) m = cond (m .answer .done) (Lines (m .lines)) Nothing
+event (Replan i y) m = cond (m .answer .done) (Planned i y) Nothing
+event (Withdraw i) m = Nothing
+event Issue m = cond (m .answer .done) (Paid (m .answer .value)) Nothing
+
+-- the newest first
+abbrev pub History : Type 0
+History = List Event
+
+-- the book, and what was handed out, after a list of calls
+pub record State : Type 0 where
+  pub book : List ℕ
+  pub history : History
+
+abbrev pub next : List ℕ → State → Call → State
+next l s c = record { book = step l (s .book) c .book; history = event c (step l (s .book) c) ∷ s .history }
+
+unfoldable pub run : List ℕ → State → List Call → State
+run l s [] = s
+run l s (c ∷ calls) = run l (next l s c) calls
+
+-- ---- what is counted as handed out before the list
+
+pub record Start : Type 0 where
+  pub year : ℕ
+  pub issued : ℕ
+  pub plan : ℕ → ℕ
+  pub oxidised : ℕ → ℕ
+  pub burned : ℕ → ℕ
+  pub kg : ℕ → ℕ
+
+-- nothing, and the plan years are the listing's
+abbrev pub fresh : List ℕ → Start
+fresh l = record { year = 0; issued = 0; plan = λ i. cell l i .conversion; oxidised = λ i. 0; burned = λ i. 0; kg = λ i. 0 }
+
+-- ---- the figures of a history
+
+-- a year's number is the count of accepted closings
+unfoldable pub yearIn : Start → History → ℕ
+yearIn s [] = s .year
+yearIn s (Lines x ∷ h) = suc (yearIn s h)
+yearIn s (Planned j y ∷ h) = yearIn s h
+yearIn s (Paid t ∷ h) = yearIn s h
+yearIn s (Nothing ∷ h) = yearIn s h
+
+-- cell i's plan year is that of its last accepted replan, or the listing's if there is none
+unfoldable pub planIn : Start → History → ℕ → ℕ
+planIn s [] i = s .plan i
+planIn s (Lines x ∷ h) i = planIn s h i
+planIn s (Planned j y ∷ h) i = cond (eqb j i) y (planIn s h i)
+planIn s (Paid t ∷ h) i = planIn s h i
+planIn s (Nothing ∷ h) i = planIn s h i
+
+-- cell i's lines are the numbers that a closing left for it in the lines buffer
+abbrev pub lineAt : ℕ → List ℕ → ℕ → ℕ
+lineAt j x i = number (getD x (lineWords * i + j) 0)
+
+abbrev pub oxidisedLine : List ℕ → ℕ → ℕ
+oxidisedLine = lineAt 0
+
+abbrev pub burnedLine : List ℕ → ℕ → ℕ
+burnedLine = lineAt 1
+
+abbrev pub kgLine : List ℕ → ℕ → ℕ
+kgLine = lineAt 2
+
+-- O, B and kg to date are the sums of these lines
+unfoldable pub sumOf : (List ℕ → ℕ → ℕ) → (ℕ → ℕ) → History → ℕ → ℕ
+sumOf line before [] i = before i
+sumOf line before (Lines x ∷ h) i = sumOf line before h i + line x i
+sumOf line before (Planned j y ∷ h) i = sumOf line before h i
+sumOf line before (Paid t ∷ h) i = sumOf line before h i
+sumOf line before (Nothing ∷ h) i = sumOf line before h i
+
+abbrev pub oxidisedIn : Start → History → ℕ → ℕ
+oxidisedIn s = sumOf oxidisedLine (s .oxidised)
+
+abbrev pub burnedIn : Start → History → ℕ → ℕ
+burnedIn s = sumOf burnedLine (s .burned)
+
+abbrev pub kgIn : Start → History → ℕ → ℕ
+kgIn s = sumOf kgLine (s .kg)
+
+-- tonnes issued are the answers of all issues
+unfoldable pub issuedIn : Start → History → ℕ
+issuedIn s [] = s .issued
+issuedIn s (Lines x ∷ h) = issuedIn s h
+issuedIn s (Planned j y ∷ h) = issuedIn s h
+issuedIn s (Paid t ∷ h) = issuedIn s h + t
+issuedIn s (Nothing ∷ h) = issuedIn s h
+
+-- the balance has the count of accepted closings as the current year and the kg lines handed out as kg to date
+abbrev pub balanceAt : List ℕ → Start → History → ℤ
+balanceAt l s h = balance l (yearIn s h) (kgIn s h)
+
+-- the highest balance met at an accepted issue, or 0 if none was above 0
+unfoldable pub highest : List ℕ → Start → History → ℕ
+highest l s [] = s .issued
+highest l s (Lines x ∷ h) = highest l s h
+highest l s (Planned j y ∷ h) = highest l s h
+highest l s (Paid t ∷ h) = max (atLeast0 (balanceAt l s h)) (highest l s h)
+highest l s (Nothing ∷ h) = highest l s h
+
+-- ---- the claims
+
+-- P of the lines of every closing, and of the history before it
+unfoldable pub EachClosing : (List ℕ → History → Type 0) → History → Type 0
+EachClosing P [] = Unit {0}
+EachClosing P (Lines x ∷ h) = P x h × EachClosing P h
+EachClosing P (Planned j y ∷ h) = EachClosing P h
+EachClosing P (Paid t ∷ h) = EachClosing P h
+EachClosing P (Nothing ∷ h) = EachClosing P h
+
+-- d of cell i in year t; where the plan year is 0 or above the year, d counts as 0
+unfoldable pub dOf : List ℕ → ℕ → ℕ → ℕ → ℕ
+dOf l i plan t = cond (unconverted plan t) 0 (drained (row l (cell l i .stratum) (age plan t)))
+
+-- if the cell burned in that year, its burned line leaves the guard dry above the water
+abbrev pub StayedDry : List ℕ → Start → ℕ → List ℕ → History → Type 0
+StayedDry l s i x before = 0 < burnedLine x i → guard l + burnedLine x i ≤ dOf l i (planIn s before i) (suc (yearIn s before))
+
+-- of cell i: a statement is accepted, and what it says remains and the lines handed out make the entered depth; the kg lines add up to
+-- the emission of the two sums; after each fire the guard stayed dry
+pub record CellKept (l : List ℕ) (s : Start) (now : State) (i : ℕ) : Type 0 where
+  pub told : stating l (now .book) i .answer .done ≡ true
+  pub depth : cell l i .entered ≡ stating l (now .book) i .account .remaining + oxidisedIn s (now .history) i + burnedIn s (now .history) i
+  pub kilos : kgIn s (now .history) i ≡ emission (head l) (cell l i) (oxidisedIn s (now .history) i) (burnedIn s (now .history) i)
+  pub dry : EachClosing (StayedDry l s i) (now .history)
+
+-- of every cell; and the tonnes issued are the highest balance met
+pub record Kept (l : List ℕ) (s : Start) (now : State) : Type 0 where
+  pub each : (i : ℕ) → i < cells l → CellKept l s now i
+  pub issues : issuedIn s (now .history) ≡ highest l s (now .history)
+
+-- THE THEOREM: for every listing and book that open accepts, and every list of calls on them, refused ones included
+abbrev pub EveryList : Type 0
+EveryList = (l b : List ℕ) → opening l b .answer .done ≡ true → (calls : List Call) → Kept l (fresh l) (run l (record { book = opening l b .book; history = [] }) calls)
+
+-- ---- the same from any book that a call accepts, with what it brings counted as handed out before
+
+pub record Brings (l b : List ℕ) (s : Start) : Type 0 where
+  pub year-is : year b ≡ s .year
+  pub issued-is : issued b ≡ s .issued
+  pub plan-is : (i : ℕ) → i < cells l → entry b i .plan ≡ s .plan i
+  pub oxidised-is : (i : ℕ) → i < cells l → entry b i .oxidised ≡ s .oxidised i
+  pub burned-is : (i : ℕ) → i < cells l → entry b i .burned ≡ s .burned i
+  pub kg-is : (i : ℕ) → i < cells l → s .kg i ≡ emission (head l) (cell l i) (s .oxidised i) (s .burned i)
+
+abbrev pub EveryListFrom : Type 0
+EveryListFrom = (l b : List ℕ) (s : Start) → admittedOnly l b .done ≡ true → Brings l b s → (calls : List Call) → Kept l s (run l (record { book = b; history = [] }) calls)

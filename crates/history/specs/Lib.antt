@@ -1,0 +1,2 @@
+-- What is proved of every list of calls.
+pub mod History

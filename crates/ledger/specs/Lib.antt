@@ -1,0 +1,2 @@
+-- What the contracts of the six calls cite.
+pub mod Calls

@@ -1,0 +1,11 @@
+-- What a cell's year is asked for: figures that an accepted listing and an accepted book guarantee.
+use Prim.Native.Nat.{ℕ, _+_, _≤_}
+use Rattle.fields.specs.Right.{HeadRight, CellRight}
+use Rattle.fields.specs.declared.Head.{Head}
+use Rattle.fields.specs.declared.Cell.{Cell}
+
+-- the cell's figures, with so much oxidised and burned
+pub record Fit (h : Head) (c : Cell) (oxidised burned : ℕ) : Type 0 where
+  pub head-right : HeadRight h
+  pub cell-right : CellRight (h .strata) (h .horizon) c
+  pub lost : oxidised + burned ≤ c .entered

@@ -1,0 +1,68 @@
+-- Document 01, "A cell's year": what a cell loses, by the listing's figures h and c, its table's row r, and its entry e in the book.
+use Prim.Native.Nat.{ℕ, _+_, _-_, _*_, _/_, min}
+use mathlib.Core.Bool.{Bool, cond, false, _||_}
+use lib.Dec.{ltb, eqb}
+use Rattle.fields.specs.declared.Head.{Head}
+use Rattle.fields.specs.declared.Row.{Row}
+use Rattle.fields.specs.declared.Cell.{Cell}
+use Rattle.year.specs.declared.Entry.{Entry}
+use Rattle.year.specs.declared.Loss.{Loss}
+
+-- the plan year is 0 or above t
+unfoldable pub unconverted : ℕ → ℕ → Bool
+unconverted plan t = eqb plan 0 || ltb t plan
+
+-- a cell loses nothing in t if it is withdrawn, if its plan year is 0 or above t, or if its entered depth is below the least thickness
+unfoldable pub rests : Head → Cell → Entry → ℕ → Bool
+rests h c e t = e .withdrawn || (unconverted (e .plan) t || ltb (c .entered) (h .thickness))
+
+-- otherwise its age is t − c + 1
+abbrev pub age : ℕ → ℕ → ℕ
+age plan t = t - plan + 1
+
+-- d is 10 times the drainage, counted from this year's surface
+abbrev pub drained : Row → ℕ
+drained r = 10 * r .drainage
+
+-- R: remaining depth is not stored
+abbrev pub remaining : Cell → Entry → ℕ
+remaining c e = c .entered - (e .oxidised + e .burned)
+
+-- burned: the least of b, R, and d − guard (0 if d is below the guard)
+unfoldable pub burnedBy : ℕ → ℕ → ℕ → ℕ → ℕ
+burnedBy guard d b left = min b (min left (d - guard))
+
+-- oxidised: the least of o, R − burned, and d − burned
+unfoldable pub oxidisedBy : ℕ → ℕ → ℕ → ℕ → ℕ
+oxidisedBy d o left burned = min o (min (left - burned) (d - burned))
+
+-- emission to date in kg CO2e: K × (11,000 × (O + B) + 4 × G × e × B) / 30,000,000, rounded down, with K = area × q
+unfoldable pub emission : Head → Cell → ℕ → ℕ → ℕ
+emission h c o b = c .area * c .density * (11000 * (o + b) + 4 * h .warming * h .methane * b) / 30000000
+
+-- the kg to date of an entry
+abbrev pub kgOf : Head → Cell → Entry → ℕ
+kgOf h c e = emission h c (e .oxidised) (e .burned)
+
+-- a year's kg line is the emission after the year minus the emission before it
+abbrev pub lossWith : Head → Cell → Entry → ℕ → ℕ → Loss
+lossWith h c e oxidised burned = record { oxidised = oxidised; burned = burned; kg = emission h c (e .oxidised + oxidised) (e .burned + burned) - kgOf h c e }
+
+-- what a cell with row r burns, and with that what it loses
+abbrev pub fire : Head → Cell → Row → Entry → ℕ
+fire h c r e = burnedBy (h .guard) (drained r) (r .burning) (remaining c e)
+
+unfoldable pub lossOf : Head → Cell → Row → Entry → Loss
+lossOf h c r e = lossWith h c e (oxidisedBy (drained r) (r .oxidation) (remaining c e) (fire h c r e)) (fire h c r e)
+
+-- nothing
+abbrev pub none : Loss
+none = record { oxidised = 0; burned = 0; kg = 0 }
+
+-- a cell's year t: the row is that of the cell's own stratum and of its own age
+unfoldable pub yearLoss : Head → (ℕ → ℕ → Row) → Cell → Entry → ℕ → Loss
+yearLoss h rows c e t = cond (rests h c e t) none (lossOf h c (rows (c .stratum) (age (e .plan) t)) e)
+
+-- no more can be lost of a cell than was entered, and nothing of one below the least thickness
+unfoldable pub mostLoss : Head → Cell → ℕ
+mostLoss h c = cond (ltb (c .entered) (h .thickness)) 0 (c .entered)
