@@ -18,6 +18,10 @@ overCells f (suc n) = overCells f n + f n
 unfoldable pub peatTonnes : List ℕ → (ℕ → ℕ) → ℕ
 peatTonnes l kg = overCells kg (cells l) / 1000
 
+-- the most that 256 cells can emit, in tonnes
+abbrev pub mostPeat : ℕ
+mostPeat = 208896000
+
 -- terms 1 to `last` to date, those of years 1 to t: 8 for N, 5 for S
 abbrev pub toDate : List ℕ → ℕ → ℕ → ℕ → ℤ
 toDate l t peat last = pos peat +ℤ termsToDate l t last

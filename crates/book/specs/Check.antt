@@ -49,9 +49,13 @@ bookRight l b k =
     cond (ltb k bookHead) (isHeadWord (horizon l) k (getD b k 0))
     (isEntryWord (horizon l) (mostLoss (head l) (cell l ((k - bookHead) / entryWords))) ((k - bookHead) % entryWords) (getD b (k - 1) 0) (getD b k 0))
 
+-- number 6: book below 2 + 3 × cells words
+unfoldable pub roomChecked : List ℕ → List ℕ → Answer
+roomChecked l b = need (leb (bookSize (cells l)) (length b)) bookShort (length b) (accepted 0)
+
 -- numbers 1 to 6: a right listing, and room for its book
 unfoldable pub fitted : List ℕ → List ℕ → Answer
-fitted l b = after (checked l) (need (leb (bookSize (cells l)) (length b)) bookShort (length b) (accepted 0))
+fitted l b = after (checked l) (roomChecked l b)
 
 -- numbers 7 and 8: room for `perCell` line words of each cell in `room` words, and no wrong word in the book
 unfoldable pub bookChecked : List ℕ → List ℕ → ℕ → ℕ → Answer

@@ -8,12 +8,17 @@ use Rattle.listing.specs.Layout.{head, cells, horizon, cell}
 use Rattle.listing.specs.Accepted.{Accepted}
 use Rattle.year.specs.Year.{mostLoss}
 use Rattle.year.specs.declared.Entry.{Entry}
-use Rattle.book.specs.Layout.{bookSize, year, issued, entry}
+use Rattle.book.specs.Layout.{entryWords, entryAt, bookSize, year, issued, entry}
 
 -- an accepted listing, and room for its book
 pub record Fitted (l b : List ℕ) : Type 0 where
   pub accepted : Accepted l
   pub room : bookSize (cells l) ≤ length b
+
+-- room for the words of cell i
+pub record Room (b : List ℕ) (i : ℕ) : Type 0 where
+  pub in-book : entryAt i + entryWords ≤ length b
+  pub small : i < 2 ^ 32
 
 -- an entry's figures, by the head and the cell of the listing
 pub record EntryRight (h : Head) (c : Cell) (e : Entry) : Type 0 where

@@ -4,7 +4,7 @@ use Prim.Native.Nat.{ℕ, _+_, _-_, _^_}
 use mathlib.Core.Bool.{Bool}
 use mathlib.Core.List.{List, [], _∷_}
 use lib.Dec.{leb, ltb}
-use lib.ListN.{getD, length, set}
+use lib.ListN.{getD, set}
 use Rattle.words.specs.Answers.{Answer, accepted, need, every, after}
 use Rattle.words.specs.Blocks.{filled}
 use Rattle.words.specs.Refusals.{horizonReached, lineTooLarge}
@@ -54,6 +54,6 @@ yearChecked l b =
     (every lineTooLarge (fineLine l b) 0 (cells l)
     (accepted 0))
 
--- what a closing answers for a lines buffer x
-unfoldable pub closeAnswer : List ℕ → List ℕ → List ℕ → Answer
-closeAnswer l b x = after (admitted l b lineWords (length x)) (yearChecked l b)
+-- what a closing answers for a lines buffer of `room` words
+unfoldable pub closeAnswer : List ℕ → List ℕ → ℕ → Answer
+closeAnswer l b room = after (admitted l b lineWords room) (yearChecked l b)

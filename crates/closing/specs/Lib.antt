@@ -1,2 +1,3 @@
 -- What the contracts of closing, and of the crates above it, cite.
 pub mod Closing
+pub mod Closable

@@ -3,7 +3,7 @@ use Prim.Native.Nat.{ℕ, _+_, _-_}
 use mathlib.Core.Bool.{Bool, true, false, cond, not, _&&_, _||_}
 use mathlib.Core.List.{List, [], _∷_, _++_}
 use lib.Dec.{leb, ltb, eqb}
-use lib.ListN.{set, drop}
+use lib.ListN.{length, set, drop}
 use Rattle.words.specs.Answers.{Answer, accepted, refused, need, after}
 use Rattle.words.specs.Blocks.{blocks}
 use Rattle.words.specs.Refusals.{noSuchCell, cellWithdrawn, cellConverted, yearNotAhead}
@@ -63,15 +63,23 @@ abbrev pub leavesLines : Answer → List ℕ → List ℕ → LeftLines
 leavesLines a b x = record { answer = a; book = b; lines = x }
 
 unfoldable pub closing : List ℕ → List ℕ → List ℕ → LeftLines
-closing l b x = leavesLines (closeAnswer l b x) (written (closeAnswer l b x) b (bookAfter l b)) (written (closeAnswer l b x) x (linesAfter l b x))
+closing l b x =
+    let a = closeAnswer l b (length x) in
+    leavesLines a (written a b (bookAfter l b)) (written a x (linesAfter l b x))
 
 -- ---- calls on cell i: number 10, and for replan and withdraw 11
 
+unfoldable pub cellChecked : List ℕ → ℕ → Answer
+cellChecked l i = need (ltb i (cells l)) noSuchCell 0 (accepted 0)
+
 unfoldable pub reached : List ℕ → List ℕ → ℕ → Answer
-reached l b i = after (admittedOnly l b) (need (ltb i (cells l)) noSuchCell 0 (accepted 0))
+reached l b i = after (admittedOnly l b) (cellChecked l i)
+
+unfoldable pub markChecked : List ℕ → ℕ → Answer
+markChecked b i = need (not (entry b i .withdrawn)) cellWithdrawn 0 (accepted 0)
 
 unfoldable pub standing : List ℕ → List ℕ → ℕ → Answer
-standing l b i = after (reached l b i) (need (not (entry b i .withdrawn)) cellWithdrawn 0 (accepted 0))
+standing l b i = after (reached l b i) (markChecked b i)
 
 -- ---- replan: sets the plan year of a cell not yet converted
 
@@ -80,12 +88,14 @@ unfoldable pub ahead : List ℕ → List ℕ → ℕ → Bool
 ahead l b y = eqb y 0 || (ltb (year b) y && leb y (horizon l))
 
 -- 12, plan year from 1 to current; 13, new year not ahead
-unfoldable pub replanAnswer : List ℕ → List ℕ → ℕ → ℕ → Answer
-replanAnswer l b i y =
-    after (standing l b i)
-    (need (unconverted (entry b i .plan) (year b)) cellConverted 0
+unfoldable pub planChecked : List ℕ → List ℕ → ℕ → ℕ → Answer
+planChecked l b i y =
+    need (unconverted (entry b i .plan) (year b)) cellConverted 0
     (need (ahead l b y) yearNotAhead 0
-    (accepted 0)))
+    (accepted 0))
+
+unfoldable pub replanAnswer : List ℕ → List ℕ → ℕ → ℕ → Answer
+replanAnswer l b i y = after (standing l b i) (planChecked l b i y)
 
 unfoldable pub replanning : List ℕ → List ℕ → ℕ → ℕ → Left
 replanning l b i y = settle (replanAnswer l b i y) b (set b (entryAt i) (planWord false y))

@@ -1,15 +1,15 @@
 -- Laws of ℤ and of the machine's signed numbers, so that what is left is for `omega`: `natAbs z` bounds z on both sides by one
 -- natural number, and `atLeast0` turns what is subtracted into the difference of natural numbers. Assumes nothing.
 use mathlib.Core.Path.{_≡_, refl, sym, ap, ap₂, _∙_}
-use mathlib.Core.Bool.{Bool, true, false, cond}
+use mathlib.Core.Bool.{Bool, true, false, cond, true≢false}
 use Prim.Native.Nat.{ℕ, zero, suc, _+_, _-_, _^_, _≤_, _<_}
 use native.Mathlib.Omega.{arith}
-use lib.Dec.{ltb}
+use lib.Dec.{T, ltb}
 use lib.IntN.{ℤ, pos, negsuc, negℤ, subℕ, natAbs, _+ℤ_, _-ℤ_, +ℤ-negℤ-cancel}
-use lib.Signed.{mag}
+use lib.Signed.{mag, ltZ, nonNeg}
 use lib.Pow.{pow-add, pow-mono}
 use mir.Syntax.{Width, w32}
-use mir.Val.{SFits, hbits, toZ, ofZ}
+use mir.Val.{Fits, SFits, bits, hbits, toZ, ofZ}
 use mir.Facts.{toZ-ofZ, toZ-pos}
 use borrow.Author.Tests.{ltb-true, ltb-false, lt-ltb, le-ltb}
 use Rattle.words.specs.Bits.{twosComplement, atLeast0}
@@ -79,6 +79,11 @@ module _ (w : Width) {x′ : ℤ} (x : ℤ) (p : x′ ≡ x) where
     sub-reads = toZ-ofZ sub-fits ∙ ap₂ (λ a b. a -ℤ b) p q
 
 -- ---- not below 0: atLeast0
+pub atLeast0-size : (z : ℤ) → atLeast0 z ≤ natAbs z
+unfolding atLeast0
+atLeast0-size (pos n) = omega arith
+atLeast0-size (negsuc n) = omega arith
+
 atLeast0-sub : (a b : ℕ) → atLeast0 (subℕ a b) ≡ a - b
 unfolding atLeast0
 atLeast0-sub a b = by-test (λ z. atLeast0 z ≡ a - b) (ltb a b) (negsuc (b - suc a)) (pos (a - b)) (λ e. omega (arith, ltb-true a b e)) (λ e. refl)
@@ -97,6 +102,29 @@ atLeast0-add (pos a) (pos b) = omega arith
 atLeast0-add (pos a) (negsuc b) = omega (arith, atLeast0-sub a (suc b))
 atLeast0-add (negsuc a) (pos b) = omega (arith, atLeast0-sub b (suc a))
 atLeast0-add (negsuc a) (negsuc b) = omega arith
+
+-- ---- what a signed test of x against a natural number n tells: a bound on atLeast0 x, and where x is not below n that x is a natural number
+lt-true : (z : ℤ) (n : ℕ) → ltZ z (pos n) ≡ true → atLeast0 z ≤ n - 1
+unfolding atLeast0
+lt-true (pos m) n e = omega (arith, ltb-true m n e)
+lt-true (negsuc m) n e = omega arith
+
+lt-false : (z : ℤ) (n : ℕ) → ltZ z (pos n) ≡ false → (n ≤ atLeast0 z) × (z ≡ pos (atLeast0 z))
+unfolding atLeast0
+lt-false (pos m) n e = (ltb-false m n e, refl)
+lt-false (negsuc m) n e = absurd (true≢false e)
+
+-- the same of what is read back from the bits of x and n; n may be a literal, with `refl` for q
+module _ {x′ y′ : ℤ} (x : ℤ) (n : ℕ) (p : x′ ≡ x) (q : y′ ≡ pos n) where
+  pub x<n : ltZ x′ y′ ≡ true → atLeast0 x ≤ n - 1
+  x<n e = lt-true x n (sym (ap₂ ltZ p q) ∙ e)
+
+  pub ¬x<n : ltZ x′ y′ ≡ false → (n ≤ atLeast0 x) × (x ≡ pos (atLeast0 x))
+  ¬x<n e = lt-false x n (sym (ap₂ ltZ p q) ∙ e)
+
+-- a cast to an unsigned type: `natAbs x′` is a by `ap natAbs p`
+pub unsigned-fits : (w : Width) {x′ : ℤ} (a : ℕ) → x′ ≡ pos a → a < 2 ^ bits w → (T (nonNeg x′)) × Fits w (natAbs x′)
+unsigned-fits w a p h = rw p (tt, record { fits = h })
 
 -- ---- differences of natural numbers: an equation of them is one for `omega`
 diff-sub : (a b : ℕ) → pos a -ℤ pos b ≡ subℕ a b

@@ -1,0 +1,34 @@
+-- What the steps of a closing are asked for; proofs/Closable.antt makes it from the answers.
+use Prim.Native.Nat.{ℕ, _+_, _*_, _≤_, _<_}
+use mathlib.Core.Path.{_≡_}
+use mathlib.Core.List.{List}
+use lib.ListN.{length}
+use Rattle.fields.specs.declared.Head.{Head}
+use Rattle.listing.specs.Layout.{head, cells, horizon, cell}
+use Rattle.listing.specs.Accepted.{Accepted}
+use Rattle.year.specs.declared.Entry.{Entry}
+use Rattle.book.specs.Layout.{lineWords, year}
+use Rattle.book.specs.Sound.{EntryRight, Sound}
+use Rattle.closing.specs.Closing.{loss, mostNumber}
+
+-- cell i with entry e can be worked out for year t; h is the listing's head
+pub record Losing (l : List ℕ) (h : Head) (i : ℕ) (e : Entry) (t : ℕ) : Type 0 where
+  pub accepted : Accepted l
+  pub head-is : h ≡ head l
+  pub there : i < cells l
+  pub entry-right : EntryRight (head l) (cell l i) e
+  pub in-time : (1 ≤ t) × (t ≤ horizon l)
+
+-- an accepted book, and t the year after its current one
+pub record Timely (l : List ℕ) (h : Head) (b : List ℕ) (t : ℕ) : Type 0 where
+  pub sound : Sound l b
+  pub head-is : h ≡ head l
+  pub next : t ≡ year b + 1
+  pub in-time : t ≤ horizon l
+
+-- all that a closing with lines buffer x writes has room
+pub record Closable (l b x : List ℕ) : Type 0 where
+  pub sound : Sound l b
+  pub ahead : year b < horizon l
+  pub room : lineWords * cells l ≤ length x
+  pub fits : (i : ℕ) → i < cells l → loss l b i .kg ≤ mostNumber

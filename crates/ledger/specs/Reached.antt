@@ -1,0 +1,16 @@
+-- What a call that found its cell is given; proofs/Reached.antt makes it from the answers.
+use Prim.Native.Nat.{ℕ, _<_}
+use mathlib.Core.List.{List}
+use Rattle.fields.specs.Right.{CellRight}
+use Rattle.listing.specs.Layout.{head, cells, strata, horizon, cell}
+use Rattle.year.specs.Fit.{Fit}
+use Rattle.book.specs.Layout.{entry}
+use Rattle.book.specs.Sound.{Room, EntryRight, Sound}
+
+-- cell i of an accepted listing and book
+pub record Reached (l b : List ℕ) (i : ℕ) : Type 0 where
+  pub sound : Sound l b
+  pub there : i < cells l
+  pub room : Room b i
+  pub entry-right : EntryRight (head l) (cell l i) (entry b i)
+  pub fit : Fit (head l) (cell l i) (entry b i .oxidised) (entry b i .burned)

@@ -1,0 +1,2 @@
+-- Laws of a cell's year.
+pub mod Laws
