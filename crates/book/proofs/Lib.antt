@@ -1,0 +1,3 @@
+-- Laws that the proofs of this crate, and of the crates above it, cite.
+pub mod Right
+pub mod Sound
