@@ -1,1 +1,88 @@
-// Balance.
+// The balance of a listing and its book: peat tonnes, N and S to date, what is withheld, and what
+// an issue pays.
+ghost use mathlib.Core.Path.{_≡_};
+ghost use Prim.Native.Nat.{_≤_, _<_, _^_};
+ghost use lib.IntN.{natAbs};
+ghost use Rattle.words.specs.Bits.{atLeast0};
+ghost use Rattle.listing.specs.Layout.{cells};
+ghost use Rattle.listing.specs.Accepted.{Accepted};
+ghost use Rattle.book.specs.Sound.{Sound};
+ghost use Rattle.balance.specs.Balance.{overCells, peatTonnes, mostPeat, toDate, withheld, balanceOf, due, kgTo, balanceIn, tonnesDue};
+
+// The kg to date of all cells, added.
+fn kg_to_date(listing: &[u32], book: &[u32]) -> u64
+    requires { ⌜ Sound (now listing) (now book) ⌝ }
+    ensures { λ r. ⌜ r ≡ overCells (kgTo (now (listing .entry)) (now (book .entry))) (cells (now (listing .entry))) ⌝ }
+{
+    let h = listing::head(listing);
+    let cells = h.cells as usize;
+    let mut kg: u64 = 0;
+    let mut i: usize = 0;
+    while i < cells {
+        let c = listing::cell(listing, i);
+        let e = book::entry(book, i);
+        kg += year::emission(h, c, e.oxidised, e.burned) as u64;
+        i += 1;
+    }
+    kg
+}
+
+// Peat tonnes to date: term 2.
+fn peat_tonnes(listing: &[u32], book: &[u32]) -> u64
+    requires { ⌜ Sound (now listing) (now book) ⌝ }
+    ensures { λ r. ⌜ r ≡ peatTonnes (now (listing .entry)) (kgTo (now (listing .entry)) (now (book .entry))) ⌝ }
+{
+    kg_to_date(listing, book) / 1000
+}
+
+// A number, or 0 where it is below 0.
+fn at_least_0(z: i64) -> u64
+    ensures { λ r. ⌜ r ≡ atLeast0 z ⌝ }
+{
+    if z < 0 { 0 } else { z as u64 }
+}
+
+// Terms 1 to `last` of the years 1 to `year`, peat among them: 8 for N, 5 for S.
+fn to_date(listing: &[u32], year: u32, peat: u64, last: u32) -> i64
+    requires { ⌜ Accepted (now listing) × (peat ≤ mostPeat) ⌝ }
+    ensures { λ r. ⌜ r ≡ toDate (now (listing .entry)) year peat last ⌝ }
+{
+    peat as i64 + terms::terms_to_date(listing, year, last)
+}
+
+// What is withheld of `s` tonnes: `p` percent, rounded up.
+fn withheld(p: u32, s: i64) -> u64
+    requires { ⌜ (p ≤ 100) × (natAbs s ≤ 2 ^ 30) ⌝ }
+    ensures { λ r. ⌜ r ≡ withheld p s ⌝ }
+{
+    (p as u64 * at_least_0(s) + 99) / 100
+}
+
+// The balance, which may be below zero.
+fn balance_of(listing: &[u32], year: u32, peat: u64) -> i64
+    requires { ⌜ Accepted (now listing) × (peat ≤ mostPeat) ⌝ }
+    ensures { λ r. ⌜ r ≡ balanceOf (now (listing .entry)) year peat ⌝ }
+{
+    let p = listing::head(listing).buffer;
+    let n = to_date(listing, year, peat, 8);
+    let s = to_date(listing, year, peat, 5);
+    n - withheld(p, s) as i64
+}
+
+// What an issue pays out of a balance: the tonnes that were not issued before.
+fn due(balance: i64, issued: u32) -> u32
+    requires { ⌜ (natAbs balance ≤ 2 ^ 30) × (atLeast0 balance < 2 ^ 28) ⌝ }
+    ensures { λ r. ⌜ r ≡ due balance issued ⌝ }
+{
+    at_least_0(balance - issued as i64) as u32
+}
+
+// What an issue on this book pays.
+pub fn tonnes_due(listing: &[u32], book: &[u32]) -> u32
+    requires { ⌜ Sound (now listing) (now book) ⌝ }
+    ensures { λ r. ⌜ r ≡ tonnesDue (now (listing .entry)) (now (book .entry)) ⌝ }
+{
+    let peat = peat_tonnes(listing, book);
+    let balance = balance_of(listing, book::year(book), peat);
+    due(balance, book::issued(book))
+}

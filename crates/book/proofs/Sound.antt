@@ -2,7 +2,7 @@
 use mathlib.Core.Path.{_≡_, sym, ap, _∙_}
 use mathlib.Core.Bool.{true}
 use mathlib.Core.List.{List}
-use Prim.Native.Nat.{ℕ, _+_, _≤_}
+use Prim.Native.Nat.{ℕ, _+_, _≤_, _<_}
 use native.Mathlib.Omega.{arith}
 use lib.Dec.{leb}
 use lib.ListN.{getD}
@@ -15,13 +15,13 @@ use Rattle.words.proofs.Answers.{need-says, after-says, and-left, and-right, wi
 use Rattle.words.proofs.Fields.{field-below}
 use Rattle.fields.specs.declared.Head.{Head}
 use Rattle.fields.specs.declared.Cell.{Cell}
-use Rattle.listing.specs.Layout.{head, horizon, cell}
+use Rattle.listing.specs.Layout.{head, cells, horizon, cell}
 use Rattle.listing.proofs.Accepted.{accepted}
 use Rattle.year.specs.Year.{mostLoss}
 use Rattle.year.proofs.Laws.{most-entered}
 use Rattle.book.specs.Layout.{number, planOf, year, issued, entryOf, wordsOf}
 use Rattle.book.specs.Check.{isYearWord, isPlanWord, isBurnedWord, roomChecked, fitted, admitted}
-use Rattle.book.specs.Sound.{Fitted, EntryRight, Sound}
+use Rattle.book.specs.Sound.{Fitted, Room, EntryRight, Sound}
 use Rattle.book.proofs.Right.{WordsRight, admitted-right}
 
 pub fitted-says : (l b : List ℕ) → fitted l b .done ≡ true → Fitted l b
@@ -70,3 +70,10 @@ fitted-done l b v e d = fitted-says l b (ap (λ (a : Answer). a .done) (sym e �
 
 pub sound-done : (l b : List ℕ) (perCell room : ℕ) (v : Outcome) → outcome v ≡ admitted l b perCell room → v ≡ Done → Sound l b
 sound-done l b perCell room v e d = sound l b perCell room (ap (λ (a : Answer). a .done) (sym e ∙ ap outcome d))
+
+-- every cell of an accepted book has room for its words
+pub sound-room : (l b : List ℕ) → Sound l b → (i : ℕ) → i < cells l → Room b i
+sound-room l b s i lt =
+    let room = s .fitted .room in
+    let few = s .fitted .accepted .head-right .cells .1 in
+    record { in-book = omega arith; small = omega arith }

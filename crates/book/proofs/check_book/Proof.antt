@@ -28,8 +28,8 @@ asked c κs =
 short : tie.Need-returns
 unfolding bookChecked
 short c =
-    let less = rw (c .before .before .before .head .ensures) at (c .before .if1 .taken) in
-    need-bad _ _ _ _ _ (lt-leb _ _ less) (c .refuse .ensures)
+    let head = c .before .before .before in
+    need-bad _ _ (head .before .before .before .args .room) _ _ (lt-leb _ _ (rw (head .head .ensures) at (c .before .if1 .taken))) (c .refuse .ensures)
 
 wrong : tie.Need-returns-2
 unfolding bookChecked
