@@ -37,7 +37,7 @@ sub-t11 : tie.Need-sub-t11
 sub-t11 c =
     let x = c .before .before .before .before in
     let a = s x .args in
-    rw (c .emission2 .ensures, c .before .before .before .emission .ensures) (emission-grows (a .h) (a .c) (a .e .oxidised) (a .e .burned) (x .oxidised-by .result) (x .before .burned-by .result))
+    omega (arith, c .emission2 .ensures, c .before .before .before .emission .ensures, emission-grows (a .h) (a .c) (a .e .oxidised) (a .e .burned) (x .oxidised-by .result) (x .before .burned-by .result))
 
 returns : tie.Need-returns
 returns c =

@@ -4,6 +4,9 @@ use Rattle.year.specs.Year.{rests}
 use Rattle.year.proofs.rests.Statement.{statement}
 use Rattle.year.proofs.rests.Tie as tie
 
-pub rests-spec : {M : Type 1} → statement M
+returns : tie.Need-returns
 unfolding rests
-rests-spec = tie.close (tie.spec (λ c κs. search needs) (λ c. cc))
+returns c = rw (c .before .before .before .unconverted .ensures)
+
+pub rests-spec : {M : Type 1} → statement M
+rests-spec = tie.close (tie.spec (λ c κs. search needs) returns)
