@@ -7,6 +7,7 @@ use denote.Ref.{now}
 use borrow.Author.Needs.{needs}
 use Rattle.fields.specs.declared.Head.{Head}
 use Rattle.listing.specs.Layout.{cells}
+use Rattle.book.proofs.Sound.{sound-room}
 use Rattle.balance.specs.Balance.{overCells, kgTo}
 use Rattle.balance.proofs.Bounds.{turn-fits, turn}
 use Rattle.balance.proofs.kg_to_date.Statement.{statement}
@@ -39,13 +40,10 @@ unfolding overCells
 loop-holds c = (omega arith, refl)
 
 cell-requires : tie.Need-cell-requires Inv-loop μ-loop
-cell-requires c κs = (start (c .before) .pre .fitted .accepted, below c)
+cell-requires c κs = (start (c .before) .pre .fitted .accepted, omega (arith, below c))
 
 entry-requires : tie.Need-entry-requires Inv-loop μ-loop
-entry-requires c κs =
-    let h = below (c .before) in
-    let s = start (c .before .before) .pre in
-    record { in-book = omega (arith, s .fitted .room); small = omega (arith, s .fitted .accepted .head-right .cells .1) }
+entry-requires c κs = let a = c .before .before in sound-room (l a) (b a) (start a .pre) (a .loop .i) (below (c .before))
 
 emission-requires : tie.Need-emission-requires Inv-loop μ-loop
 emission-requires c κs =
