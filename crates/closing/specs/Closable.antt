@@ -1,13 +1,14 @@
 -- What the steps of a closing are asked for; proofs/Closable.antt makes it from the answers.
 use Prim.Native.Nat.{ℕ, _+_, _*_, _≤_, _<_}
 use mathlib.Core.Path.{_≡_}
+use mathlib.Core.Bool.{true}
 use mathlib.Core.List.{List}
-use lib.ListN.{length}
 use Rattle.fields.specs.declared.Head.{Head}
 use Rattle.listing.specs.Layout.{head, cells, horizon, cell}
 use Rattle.listing.specs.Accepted.{Accepted}
 use Rattle.year.specs.declared.Entry.{Entry}
 use Rattle.book.specs.Layout.{lineWords, year}
+use Rattle.book.specs.Check.{admitted}
 use Rattle.book.specs.Sound.{EntryRight, Sound}
 use Rattle.closing.specs.Closing.{loss, mostNumber}
 
@@ -26,9 +27,10 @@ pub record Timely (l : List ℕ) (h : Head) (b : List ℕ) (t : ℕ) : Type 0 wh
   pub next : t ≡ year b + 1
   pub in-time : t ≤ horizon l
 
--- all that a closing with lines buffer x writes has room
-pub record Closable (l b x : List ℕ) : Type 0 where
+-- what a closing with a lines buffer of `size` words is given
+pub record Closable (l b : List ℕ) (size : ℕ) : Type 0 where
+  pub admits : admitted l b lineWords size .done ≡ true
   pub sound : Sound l b
   pub ahead : year b < horizon l
-  pub room : lineWords * cells l ≤ length x
+  pub room : lineWords * cells l ≤ size
   pub fits : (i : ℕ) → i < cells l → loss l b i .kg ≤ mostNumber

@@ -1,1 +1,146 @@
-// Closing.
+// The closing of a year: a first pass reads and decides, a second writes, cell by cell.
+ghost use mathlib.Core.Path.{_≡_};
+ghost use mathlib.Core.Bool.{true};
+ghost use Prim.Native.Nat.{_+_, _^_, _<_, _≤_};
+ghost use lib.ListN.{length};
+ghost use Rattle.words.specs.Search.{firstWrong};
+ghost use Rattle.words.specs.Answers.{outcome};
+ghost use Rattle.words.specs.Blocks.{filled};
+ghost use Rattle.listing.specs.Layout.{head, cells, row, cell};
+ghost use Rattle.year.specs.Year.{yearLoss};
+ghost use Rattle.book.specs.Layout.{bookHead, entryWords, lineWords, entryOf, linesOf};
+ghost use Rattle.book.specs.Sound.{Sound};
+ghost use Rattle.closing.specs.Closing.{lossOf, wordsAfter, closedWords, bookAfter, linesAfter, mostNumber, fineLine, yearChecked, closeAnswer};
+ghost use Rattle.closing.specs.Closable.{Losing, Timely, Closable};
+use book::BOOK_HEAD;
+use book::ENTRY_WORDS;
+use fields::Head;
+use words::HORIZON_REACHED;
+use words::LINE_TOO_LARGE;
+use words::Outcome;
+use words::refuse;
+use words::word;
+use year::Entry;
+use year::Loss;
+
+// The line words of a cell.
+const LINE_WORDS: usize = 3;
+
+// The greatest number that a word's bits 27 to 0 hold.
+const MOST_NUMBER: u32 = 268435455;
+
+// What cell `i` loses in `year`, by its own entry and the row of its own stratum and age.
+fn cell_loss(listing: &[u32], h: Head, i: usize, e: Entry, year: u32) -> Loss
+    requires { ⌜ Losing (now listing) h i e year ⌝ }
+    ensures { λ s. ⌜ s ≡ yearLoss (head (now (listing .entry))) (row (now (listing .entry))) (cell (now (listing .entry)) i) e year ⌝ }
+{
+    let c = listing::cell(listing, i);
+    if year::rests(h, c, e, year) {
+        return Loss {
+            oxidised: 0,
+            burned: 0,
+            kg: 0,
+        };
+    }
+    let r = listing::row(listing, c.stratum, year - e.plan + 1);
+    year::loss_of(h, c, r, e)
+}
+
+// The first cell whose kg line is too large for its word; where there is none, the count of cells.
+fn first_large(listing: &[u32], h: Head, book: &[u32], year: u32) -> usize
+    requires { ⌜ Timely (now listing) h (now book) year ⌝ }
+    ensures { λ r. ⌜ r ≡ firstWrong (fineLine (now (listing .entry)) (now (book .entry))) 0 (cells (now (listing .entry))) ⌝ }
+{
+    let cells = h.cells as usize;
+    let mut i: usize = 0;
+    while i < cells {
+        let e = book::entry(book, i);
+        let s = cell_loss(listing, h, i, e, year);
+        if MOST_NUMBER < s.kg {
+            break;
+        }
+        i += 1;
+    }
+    i
+}
+
+// Numbers 9 and 14, for a right book.
+fn check_year(listing: &[u32], book: &[u32]) -> Outcome
+    requires { ⌜ Sound (now listing) (now book) ⌝ }
+    ensures { λ r. ⌜ outcome r ≡ yearChecked (now (listing .entry)) (now (book .entry)) ⌝ }
+{
+    let h = listing::head(listing);
+    let year = book::year(book);
+    if h.horizon <= year {
+        return refuse(HORIZON_REACHED, 0);
+    }
+    let cell = first_large(listing, h, book, year + 1);
+    if cell < h.cells as usize {
+        return refuse(LINE_TOO_LARGE, cell);
+    }
+    Outcome::Done
+}
+
+// Whether a year can be closed with a lines buffer of `room` words: this writes nothing.
+pub fn may_close(listing: &[u32], book: &[u32], room: usize) -> Outcome
+    ensures { λ r. ⌜ outcome r ≡ closeAnswer (now (listing .entry)) (now (book .entry)) room ⌝ }
+{
+    match book::admit(listing, book, LINE_WORDS, room) {
+        Outcome::Done => check_year(listing, book),
+        Outcome::Refused(why) => Outcome::Refused(why),
+    }
+}
+
+// Closes cell `i`, whose own words are lent: adds the year's mm to its mm to date.
+fn close_cell(cell: &mut [u32], listing: &[u32], h: Head, i: usize, year: u32) -> Loss
+    requires { ⌜ (length (now cell) ≡ entryWords) × Losing (now listing) h i (entryOf (now cell)) year ⌝ }
+    ensures { λ s. ⌜ s ≡ lossOf (now (listing .entry)) year i (now (cell .entry)) ⌝ }
+    ensures { λ _. ⌜ now (cell .exit) ≡ wordsAfter (now (cell .entry)) (lossOf (now (listing .entry)) year i (now (cell .entry))) ⌝ }
+{
+    let e = book::entry_of(&cell[..]);
+    let s = cell_loss(listing, h, i, e, year);
+    cell[1] = word(11, e.oxidised + s.oxidised);
+    cell[2] = word(12, e.burned + s.burned);
+    s
+}
+
+// Writes a cell's three lines.
+fn put_lines(lines: &mut [u32], s: Loss)
+    requires { ⌜ (length (now lines) ≡ lineWords) × (s .oxidised ≤ mostNumber) × (s .burned ≤ mostNumber) × (s .kg ≤ mostNumber) ⌝ }
+    ensures { λ _. ⌜ now (lines .exit) ≡ linesOf s ⌝ }
+{
+    lines[0] = word(13, s.oxidised);
+    lines[1] = word(14, s.burned);
+    lines[2] = word(15, s.kg);
+}
+
+// Closes every cell: its words in the book, and its lines.
+fn close_cells(listing: &[u32], h: Head, book: &mut [u32], lines: &mut [u32], year: u32)
+    requires { ⌜ Timely (now listing) h (now book) year × Closable (now listing) (now book) (length (now lines)) ⌝ }
+    ensures { λ _. ⌜ now (book .exit) ≡ filled entryWords (now (book .entry)) bookHead (closedWords (now (listing .entry)) (now (book .entry))) (cells (now (listing .entry))) ⌝ }
+    ensures { λ _. ⌜ now (lines .exit) ≡ linesAfter (now (listing .entry)) (now (book .entry)) (now (lines .entry)) ⌝ }
+{
+    let cells = h.cells as usize;
+    let mut i: usize = 0;
+    while i < cells {
+        let a = BOOK_HEAD + ENTRY_WORDS * i;
+        let e = a + ENTRY_WORDS;
+        let s = close_cell(&mut book[a..e], listing, h, i, year);
+        let from = LINE_WORDS * i;
+        let to = from + LINE_WORDS;
+        put_lines(&mut lines[from..to], s);
+        i += 1;
+    }
+}
+
+// Closes the year after the current one.
+pub fn close_year(listing: &[u32], book: &mut [u32], lines: &mut [u32])
+    requires { ⌜ Closable (now listing) (now book) (length (now lines)) ⌝ }
+    ensures { λ _. ⌜ now (book .exit) ≡ bookAfter (now (listing .entry)) (now (book .entry)) ⌝ }
+    ensures { λ _. ⌜ now (lines .exit) ≡ linesAfter (now (listing .entry)) (now (book .entry)) (now (lines .entry)) ⌝ }
+{
+    let h = listing::head(listing);
+    let year = book::year(&book[..]) + 1;
+    close_cells(listing, h, book, lines, year);
+    book[0] = word(8, year);
+}

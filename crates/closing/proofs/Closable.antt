@@ -1,0 +1,152 @@
+-- What the steps of a closing are given, from its answers. Assumes nothing.
+use mathlib.Core.Path.{_≡_, refl, sym, ap, _∙_}
+use mathlib.Core.Bool.{Bool, true, false, _||_}
+use mathlib.Core.List.{List, [], _∷_}
+use Prim.Native.Nat.{ℕ, zero-le, _+_, _-_, _*_, _^_, _≤_, _<_}
+use native.Mathlib.Omega.{arith}
+use lib.Dec.{eqb, ltb, leb}
+use lib.ListN.{length, getD, set}
+use borrow.Author.Tests.{le-leb, lt-leb, leb-true, ltb-true, ltb-false, eqb-false}
+use Rattle.words.specs.Answers.{Answer, outcome}
+use Rattle.words.specs.declared.Outcome.{Outcome}
+use Rattle.words.specs.declared.Outcome.the-variants.{Done}
+use Rattle.words.proofs.Answers.{need-says, every-says, after-says}
+use Rattle.fields.specs.declared.Head.{Head}
+use Rattle.fields.specs.declared.Cell.{Cell}
+use Rattle.fields.specs.declared.Row.{Row}
+use Rattle.fields.specs.Right.{RowRight}
+use Rattle.listing.specs.Layout.{head, cells, strata, horizon, row, cell}
+use Rattle.year.specs.Year.{unconverted, rests, age, lossOf, none, yearLoss}
+use Rattle.year.specs.Fit.{Fit}
+use Rattle.year.specs.declared.Entry.{Entry}
+use Rattle.year.specs.declared.Loss.{Loss}
+use Rattle.year.proofs.Laws.{or-false, awake, most-entered, year-most}
+use Rattle.book.specs.Layout.{entryWords, lineWords, year, entryOf, entry, oxidisedWord, burnedWord}
+use Rattle.book.specs.Check.{admitted, bookChecked}
+use Rattle.book.specs.Sound.{Room, Sound}
+use Rattle.book.proofs.Sound.{sound, sound-room}
+use Rattle.closing.specs.Closing.{loss, wordsAfter, mostNumber, fineLine, yearChecked, closeAnswer}
+use Rattle.closing.specs.Closing as closing
+use Rattle.closing.specs.Closable.{Losing, Timely, Closable}
+
+-- a plan year that is not "0 or above t" is from 1 to t
+pub converted : (plan t : ℕ) → unconverted plan t ≡ false → (1 ≤ plan) × (plan ≤ t)
+unfolding unconverted
+converted plan t q =
+    let h = or-false (eqb plan 0) (ltb t plan) q in
+    let some : plan ≡ 0 → ⊥ = eqb-false plan 0 (h .0) in
+    let le = ltb-false t plan (h .1) in
+    (omega arith, le)
+
+-- stores to the last two of three words
+last-two : (w : List ℕ) (o b : ℕ) → length w ≡ 3 → set (set w 1 o) 2 b ≡ getD w 0 0 ∷ o ∷ b ∷ []
+last-two [] o b h = absurd (omega arith)
+last-two (x ∷ []) o b h = absurd (omega arith)
+last-two (x ∷ y ∷ []) o b h = absurd (omega arith)
+last-two (x ∷ y ∷ z ∷ []) o b h = refl
+last-two (x ∷ y ∷ z ∷ u ∷ w) o b h = absurd (omega arith)
+
+-- ---- a cell that is worked out
+module _ {l : List ℕ} {h : Head} {i : ℕ} {e : Entry} {t : ℕ} (g : Losing l h i e t) where
+  pub losing-fit : Fit (head l) (cell l i) (e .oxidised) (e .burned)
+  losing-fit = record { head-right = g .accepted .head-right; cell-right = g .accepted .cell-right i (g .there); lost = g .entry-right .lost }
+
+  -- if it does not rest, its table has a row for its age
+  pub losing-age : rests (head l) (cell l i) e t ≡ false → (e .plan ≤ t) × (cell l i .stratum < strata l) × (1 ≤ age (e .plan) t) × (age (e .plan) t ≤ horizon l)
+  losing-age q =
+      let c = converted (e .plan) t (awake (head l) (cell l i) e t q .0) in
+      let right = g .accepted .cell-right i (g .there) in
+      let time = g .in-time in
+      (c .1, right .stratum, omega arith, omega arith)
+
+  -- its mm to date after the year, and so the year's, are at most 20,000
+  pub lost-then : (e .oxidised + yearLoss (head l) (row l) (cell l i) e t .oxidised) + (e .burned + yearLoss (head l) (row l) (cell l i) e t .burned) ≤ 20000
+  lost-then =
+      let right = g .accepted .cell-right i (g .there) in
+      omega (arith, right .entered, most-entered (head l) (cell l i), year-most (head l) (row l) (cell l i) e t (g .entry-right .most))
+
+  -- what its calls were given and answered: c the cell, b whether it rests
+  module _ (c : Cell) (c-is : c ≡ cell l i) (b : Bool) (b-is : b ≡ rests h c e t) where
+    rests-is : b ≡ rests (head l) (cell l i) e t
+    rests-is = rw (g .head-is, c-is) at b-is
+
+    pub asleep-loss : b ≡ true → none ≡ yearLoss (head l) (row l) (cell l i) e t
+    unfolding yearLoss
+    asleep-loss q = rw (sym rests-is ∙ q)
+
+    module _ (q : b ≡ false) where
+      pub awake-age : (e .plan ≤ t) × (c .stratum < strata l) × (1 ≤ age (e .plan) t) × (age (e .plan) t ≤ horizon l)
+      awake-age = rw c-is (losing-age (sym rests-is ∙ q))
+
+      pub awake-fit : (r : Row) → r ≡ row l (c .stratum) (age (e .plan) t) → Fit h c (e .oxidised) (e .burned) × RowRight r
+      awake-fit r r-is = rw (r-is, g .head-is, c-is) (losing-fit, g .accepted .row-right (cell l i .stratum) (age (e .plan) t))
+
+      pub awake-loss : (r : Row) → r ≡ row l (c .stratum) (age (e .plan) t) → (s : Loss) → s ≡ lossOf h c r e → s ≡ yearLoss (head l) (row l) (cell l i) e t
+      unfolding yearLoss
+      awake-loss r r-is s s-is = rw (sym rests-is ∙ q, s-is, r-is, g .head-is, c-is)
+
+-- a cell's own words w, which the step was lent: e is the entry that it read, s the loss that it was told
+module _ {l : List ℕ} {h : Head} {i t : ℕ} (w : List ℕ) (g : Losing l h i (entryOf w) t) (e : Entry) (e-is : e ≡ entryOf w) (s : Loss) (s-is : s ≡ yearLoss (head l) (row l) (cell l i) e t) where
+  pub step-loss : s ≡ closing.lossOf l t i w
+  step-loss = rw e-is at s-is
+
+  pub step-lost : (e .oxidised + s .oxidised) + (e .burned + s .burned) ≤ 20000
+  step-lost = rw (step-loss, e-is) (lost-then g)
+
+  -- two words stored over the last two of three
+  pub step-words : length w ≡ entryWords → (o b : ℕ) → o ≡ oxidisedWord (e .oxidised + s .oxidised) → b ≡ burnedWord (e .burned + s .burned) → set (set w 1 o) 2 b ≡ wordsAfter w (closing.lossOf l t i w)
+  unfolding wordsAfter
+  step-words three o b o-is b-is = rw (o-is, b-is, step-loss, e-is) (last-two w (oxidisedWord (entryOf w .oxidised + closing.lossOf l t i w .oxidised)) (burnedWord (entryOf w .burned + closing.lossOf l t i w .burned)) three)
+
+-- every cell of a right book can be
+pub timely-losing : {l : List ℕ} {h : Head} {b : List ℕ} {t : ℕ} → Timely l h b t → (i : ℕ) → i < cells l → Losing l h i (entry b i) t
+timely-losing {l} {h} {b} {t} g i lt =
+    let next = g .next in
+    record {
+      accepted = g .sound .fitted .accepted;
+      head-is = g .head-is;
+      there = lt;
+      entry-right = g .sound .entry-right i lt;
+      in-time = (omega arith, g .in-time);
+    }
+
+module _ {l : List ℕ} {h : Head} {b : List ℕ} {t : ℕ} (g : Timely l h b t) where
+  pub timely-cells : h .cells ≡ cells l
+  timely-cells = ap (λ (h : Head). h .cells) (g .head-is)
+
+  pub timely-room : (i : ℕ) → i < cells l → Room b i
+  timely-room i lt = sound-room l b (g .sound) i lt
+
+  -- e the entry that was read, s the loss that was told: whether its kg line fits its word
+  module _ (i : ℕ) (e : Entry) (e-is : e ≡ entry b i) (s : Loss) (s-is : s ≡ yearLoss (head l) (row l) (cell l i) e t) where
+    told : s ≡ loss l b i
+    told = rw (e-is, g .next) at s-is
+
+    pub line-fine : s .kg ≤ mostNumber → fineLine l b i ≡ true
+    unfolding fineLine
+    line-fine le = le-leb _ _ (rw told at le)
+
+    pub line-large : mostNumber < s .kg → fineLine l b i ≡ false
+    unfolding fineLine
+    line-large lt = lt-leb _ _ (rw told at lt)
+
+-- ---- a closing that is accepted
+module _ (l b : List ℕ) (room : ℕ) where
+  pub closable : closeAnswer l b room .done ≡ true → Closable l b room
+  unfolding closeAnswer admitted bookChecked yearChecked fineLine
+  closable a =
+      let h₁ = after-says _ _ a in
+      let h₂ = after-says _ _ (h₁ .0) in
+      let h₃ = need-says _ _ _ _ (h₂ .1) in
+      let h₄ = need-says _ _ _ _ (h₁ .1) in
+      let h₅ = every-says _ _ _ _ _ (h₄ .1) in
+      record {
+        admits = h₁ .0;
+        sound = sound l b lineWords room (h₁ .0);
+        ahead = ltb-true _ _ (h₄ .0);
+        room = leb-true _ _ (h₃ .0);
+        fits = λ i lt. leb-true _ _ (h₅ .0 i zero-le lt);
+      }
+
+  pub closable-done : (v : Outcome) → outcome v ≡ closeAnswer l b room → v ≡ Done → Closable l b room
+  closable-done v e d = closable (ap (λ (a : Answer). a .done) (sym e ∙ ap outcome d))

@@ -1,0 +1,3 @@
+-- Laws of a closing.
+pub mod Closable
+pub mod Turn

@@ -1,0 +1,75 @@
+-- `closing::close_cells` meets its contract: turn i is lent cell i's words as they were at the start, and leaves the closed ones. Assumes nothing.
+use borrow.Author.Needs.{needs}
+use mathlib.Core.Path.{_≡_}
+use Prim.Native.Nat.{_-_}
+use native.Mathlib.Omega.{arith}
+use lib.ListN.{length-take, length-drop}
+use Rattle.listing.specs.Layout.{cells}
+use Rattle.closing.proofs.Closable.{timely-cells}
+use Rattle.closing.proofs.Turn.{Turned, turned-none, turn-losing, turn-fits, turned-next, turned-all}
+use Rattle.closing.proofs.close_cells.Statement.{statement}
+use Rattle.closing.proofs.close_cells.Tie as tie
+
+abbrev Inv-loop : tie.InvT-loop
+Inv-loop listing h book₀ lines₀ year count i₀ book lines i = (count ≡ cells listing) × Turned listing book₀ lines₀ i book lines
+
+abbrev μ-loop : tie.MeasureT-loop
+μ-loop listing h book₀ lines₀ year count i₀ book lines i = count - i
+
+loop-holds : tie.Need-loop-holds Inv-loop μ-loop
+loop-holds c =
+    let pre = c .before .before .before .before .pre in
+    (timely-cells (pre .0), turned-none _ (pre .1))
+
+close-cell-requires : tie.Need-close-cell-requires Inv-loop μ-loop
+close-cell-requires c κs =
+    let t = c .before .before .loop in
+    let pre = c .before .before .before .before .before .before .before .pre in
+    turn-losing _ (pre .1) (pre .0) (t .i) (omega arith) (t .inv .1)
+
+put-lines-requires : tie.Need-put-lines-requires Inv-loop μ-loop
+put-lines-requires c κs =
+    let t = c .before .before .before .before .before .before .loop in
+    let pre = c .before .before .before .before .before .before .before .before .before .before .before .pre in
+    let fits = turn-fits _ (pre .1) (pre .0) (t .i) (omega arith) (t .inv .1) (c .before .before .before .close-cell .ensures .0) in
+    (simp (length-take, length-drop) (omega arith), fits .0, fits .1, fits .2)
+
+loop-again : tie.Need-loop-again Inv-loop μ-loop
+loop-again c =
+    let t = c .before .before .before .before .before .before .before .before .before .loop in
+    let pre = c .before .before .before .before .before .before .before .before .before .before .before .before .before .before .pre in
+    let told = c .before .before .before .before .before .before .close-cell .ensures in
+    (t .inv .0, turned-next _ (pre .1) (pre .0) (t .i) (omega arith) (t .inv .1) (told .0) (told .1) (c .before .before .put-lines .ensures))
+
+returns : tie.Need-returns Inv-loop μ-loop
+returns c = turned-all (c .before .loop .inv .1) (omega arith)
+
+pub close-cells-spec : {M : Type 1} → statement M
+close-cells-spec =
+    tie.close
+    (tie.spec
+    Inv-loop
+    μ-loop
+    (λ c. search needs)
+    loop-holds
+    (λ c. search needs)
+    (λ c. search needs)
+    (λ c. search needs)
+    (λ c. search needs)
+    (λ c. search needs)
+    (λ c. search needs)
+    (λ c. search needs)
+    close-cell-requires
+    (λ c. search needs)
+    (λ c. search needs)
+    (λ c. search needs)
+    (λ c. search needs)
+    (λ c. search needs)
+    (λ c. search needs)
+    put-lines-requires
+    (λ c. search needs)
+    (λ c. search needs)
+    loop-again
+    (λ c. search needs)
+    (λ c. search needs)
+    returns)

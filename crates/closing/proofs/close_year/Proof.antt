@@ -1,0 +1,33 @@
+-- `closing::close_year` meets its contract: the cells are closed, and then the year's word is stored. Assumes nothing.
+use borrow.Author.Needs.{needs}
+use native.Mathlib.Omega.{arith}
+use Rattle.closing.specs.Closing.{bookAfter}
+use Rattle.closing.proofs.Turn.{timely-next}
+use Rattle.closing.proofs.close_year.Statement.{statement}
+use Rattle.closing.proofs.close_year.Tie as tie
+
+close-cells-requires : tie.Need-close-cells-requires
+close-cells-requires c κs =
+    let k = c .before .before .before .before .before .before .before .before .pre in
+    (timely-next (k .sound) (k .ahead) (c .before .before .before .before .head .ensures) (omega arith), k)
+
+returns : tie.Need-returns
+unfolding bookAfter
+returns c =
+    let closed = c .before .before .before .before .before .close-cells .ensures in
+    let year = c .before .before .before .before .before .before .before .before .year .ensures in
+    (rw (c .word .ensures, closed .0, year), closed .1)
+
+pub close-year-spec : {M : Type 1} → statement M
+close-year-spec =
+    tie.close
+    (tie.spec
+    (λ c κs. search needs)
+    (λ c κs. search needs)
+    (λ c. search needs)
+    close-cells-requires
+    (λ c κs. search needs)
+    (λ c. search needs)
+    (λ c. search needs)
+    (λ c. search needs)
+    returns)
