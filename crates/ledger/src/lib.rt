@@ -1,5 +1,28 @@
-// The ledger.
+// The ledger's six calls. None asks anything of its caller; each answers a number and a place where
+// it is refused, and then it has written nothing.
+ghost use mathlib.Core.Path.{_≡_};
+ghost use mathlib.Core.Bool.{false};
+ghost use mathlib.Core.List.{[], _∷_};
+ghost use Prim.Native.Nat.{_^_, _<_};
+ghost use lib.ListN.{length};
+ghost use Rattle.words.specs.Answers.{outcome};
+ghost use Rattle.words.specs.Blocks.{filled};
+ghost use Rattle.listing.specs.Layout.{cells};
+ghost use Rattle.listing.specs.Accepted.{Accepted};
+ghost use Rattle.book.specs.Layout.{bookHead, entryWords, planWord, oxidisedWord, burnedWord};
+ghost use Rattle.book.specs.Sound.{Fitted, Room, Sound};
+ghost use Rattle.ledger.specs.Calls.{leaves, openHead, openWords, openBook, opening, leavesLines, closing, cellChecked, reached, markChecked, standing, planChecked, replanAnswer, replanning, withdrawing, issuedAs, issuing, statedAs, accountOf, stating};
+ghost use Rattle.ledger.specs.Reached.{Reached};
+use book::BOOK_HEAD;
+use book::ENTRY_WORDS;
+use words::CELL_CONVERTED;
+use words::CELL_WITHDRAWN;
+use words::NO_SUCH_CELL;
+use words::Outcome;
 use words::Refusal;
+use words::YEAR_NOT_AHEAD;
+use words::refuse;
+use words::word;
 
 // The answer of an issue.
 pub enum Issued {
@@ -23,4 +46,221 @@ pub struct Account {
 pub enum Stated {
     Told(Account),
     Refused(Refusal),
+}
+
+// Writes a cell of which nothing is lost.
+fn open_cell(cell: &mut [u32], plan: u32)
+    requires { ⌜ (length (now cell) ≡ entryWords) × (plan < 2 ^ 8) ⌝ }
+    ensures { λ _. ⌜ now (cell .exit) ≡ planWord false plan ∷ oxidisedWord 0 ∷ burnedWord 0 ∷ [] ⌝ }
+{
+    cell[0] = word(10, plan);
+    cell[1] = word(11, 0);
+    cell[2] = word(12, 0);
+}
+
+// Writes the first `n` cells, with the plan years of the listing.
+fn open_cells(listing: &[u32], book: &mut [u32], n: usize)
+    requires { ⌜ Fitted (now listing) (now book) × (n ≡ cells (now listing)) ⌝ }
+    ensures { λ _. ⌜ now (book .exit) ≡ filled entryWords (now (book .entry)) bookHead (openWords (now (listing .entry))) n ⌝ }
+{
+    let mut i: usize = 0;
+    while i < n {
+        let a = BOOK_HEAD + ENTRY_WORDS * i;
+        let e = a + ENTRY_WORDS;
+        let c = listing::cell(listing, i);
+        open_cell(&mut book[a..e], c.conversion);
+        i += 1;
+    }
+}
+
+// Year 0, and 0 tonnes issued.
+fn open_head(head: &mut [u32])
+    requires { ⌜ length (now head) ≡ bookHead ⌝ }
+    ensures { λ _. ⌜ now (head .exit) ≡ openHead ⌝ }
+{
+    head[0] = word(8, 0);
+    head[1] = word(9, 0);
+}
+
+fn open_book(listing: &[u32], book: &mut [u32])
+    requires { ⌜ Fitted (now listing) (now book) ⌝ }
+    ensures { λ _. ⌜ now (book .exit) ≡ openBook (now (listing .entry)) (now (book .entry)) ⌝ }
+{
+    let n = listing::head(listing).cells as usize;
+    open_cells(listing, book, n);
+    let a: usize = 0;
+    let e = BOOK_HEAD;
+    open_head(&mut book[a..e]);
+}
+
+// Opens a book for a listing.
+pub fn open(listing: &[u32], book: &mut [u32]) -> Outcome
+    ensures { λ r. ⌜ leaves (outcome r) (now (book .exit)) ≡ opening (now (listing .entry)) (now (book .entry)) ⌝ }
+{
+    let v = book::fits(listing, &book[..]);
+    match v {
+        Outcome::Done => {
+            open_book(listing, book);
+            Outcome::Done
+        }
+        Outcome::Refused(why) => Outcome::Refused(why),
+    }
+}
+
+// Closes the year after the current one: three line words for each cell, and the book.
+pub fn close(listing: &[u32], book: &mut [u32], lines: &mut [u32]) -> Outcome
+    ensures { λ r. ⌜ leavesLines (outcome r) (now (book .exit)) (now (lines .exit)) ≡ closing (now (listing .entry)) (now (book .entry)) (now (lines .entry)) ⌝ }
+{
+    let v = closing::may_close(listing, &book[..], lines.len());
+    match v {
+        Outcome::Done => {
+            closing::close_year(listing, book, lines);
+            Outcome::Done
+        }
+        Outcome::Refused(why) => Outcome::Refused(why),
+    }
+}
+
+// Number 10, for a right listing.
+fn check_cell(listing: &[u32], cell: usize) -> Outcome
+    requires { ⌜ Accepted (now listing) ⌝ }
+    ensures { λ r. ⌜ outcome r ≡ cellChecked (now (listing .entry)) cell ⌝ }
+{
+    let cells = listing::head(listing).cells as usize;
+    if cells <= cell {
+        return refuse(NO_SUCH_CELL, 0);
+    }
+    Outcome::Done
+}
+
+// Numbers 1 to 10.
+fn reach(listing: &[u32], book: &[u32], cell: usize) -> Outcome
+    ensures { λ r. ⌜ outcome r ≡ reached (now (listing .entry)) (now (book .entry)) cell ⌝ }
+{
+    match book::admit(listing, book, 0, 0) {
+        Outcome::Done => check_cell(listing, cell),
+        Outcome::Refused(why) => Outcome::Refused(why),
+    }
+}
+
+// Number 11.
+fn check_mark(book: &[u32], cell: usize) -> Outcome
+    requires { ⌜ Room (now book) cell ⌝ }
+    ensures { λ r. ⌜ outcome r ≡ markChecked (now (book .entry)) cell ⌝ }
+{
+    let e = book::entry(book, cell);
+    if e.withdrawn {
+        return refuse(CELL_WITHDRAWN, 0);
+    }
+    Outcome::Done
+}
+
+// Numbers 1 to 11.
+fn stand(listing: &[u32], book: &[u32], cell: usize) -> Outcome
+    ensures { λ r. ⌜ outcome r ≡ standing (now (listing .entry)) (now (book .entry)) cell ⌝ }
+{
+    match reach(listing, book, cell) {
+        Outcome::Done => check_mark(book, cell),
+        Outcome::Refused(why) => Outcome::Refused(why),
+    }
+}
+
+// Numbers 12 and 13.
+fn check_plan(listing: &[u32], book: &[u32], cell: usize, year: u32) -> Outcome
+    requires { ⌜ Reached (now listing) (now book) cell ⌝ }
+    ensures { λ r. ⌜ outcome r ≡ planChecked (now (listing .entry)) (now (book .entry)) cell year ⌝ }
+{
+    let current = book::year(book);
+    let e = book::entry(book, cell);
+    if !year::unconverted(e.plan, current) {
+        return refuse(CELL_CONVERTED, 0);
+    }
+    let horizon = listing::head(listing).horizon;
+    if !((year == 0) | ((current < year) & (year <= horizon))) {
+        return refuse(YEAR_NOT_AHEAD, 0);
+    }
+    Outcome::Done
+}
+
+// Numbers 1 to 13.
+fn may_replan(listing: &[u32], book: &[u32], cell: usize, year: u32) -> Outcome
+    ensures { λ r. ⌜ outcome r ≡ replanAnswer (now (listing .entry)) (now (book .entry)) cell year ⌝ }
+{
+    match stand(listing, book, cell) {
+        Outcome::Done => check_plan(listing, book, cell, year),
+        Outcome::Refused(why) => Outcome::Refused(why),
+    }
+}
+
+// Gives a cell that is not yet converted another plan year, or 0 for never.
+pub fn replan(listing: &[u32], book: &mut [u32], cell: usize, year: u32) -> Outcome
+    ensures { λ r. ⌜ leaves (outcome r) (now (book .exit)) ≡ replanning (now (listing .entry)) (now (book .entry)) cell year ⌝ }
+{
+    let v = may_replan(listing, &book[..], cell, year);
+    match v {
+        Outcome::Done => {
+            book::put_plan(book, cell, false, year);
+            Outcome::Done
+        }
+        Outcome::Refused(why) => Outcome::Refused(why),
+    }
+}
+
+// Marks a cell for good. What it has lost stays counted.
+pub fn withdraw(listing: &[u32], book: &mut [u32], cell: usize) -> Outcome
+    ensures { λ r. ⌜ leaves (outcome r) (now (book .exit)) ≡ withdrawing (now (listing .entry)) (now (book .entry)) cell ⌝ }
+{
+    let v = stand(listing, &book[..], cell);
+    match v {
+        Outcome::Done => {
+            let e = book::entry(&book[..], cell);
+            book::put_plan(book, cell, true, e.plan);
+            Outcome::Done
+        }
+        Outcome::Refused(why) => Outcome::Refused(why),
+    }
+}
+
+// Pays out of the balance what was not issued before.
+pub fn issue(listing: &[u32], book: &mut [u32]) -> Issued
+    ensures { λ r. ⌜ leaves (issuedAs r) (now (book .exit)) ≡ issuing (now (listing .entry)) (now (book .entry)) ⌝ }
+{
+    let v = book::admit(listing, &book[..], 0, 0);
+    match v {
+        Outcome::Done => {
+            let tonnes = balance::tonnes_due(listing, &book[..]);
+            let issued = book::issued(&book[..]);
+            book[1] = word(9, issued + tonnes);
+            Issued::Tonnes(tonnes)
+        }
+        Outcome::Refused(why) => Issued::Refused(why),
+    }
+}
+
+fn account_of(listing: &[u32], book: &[u32], cell: usize) -> Account
+    requires { ⌜ Reached (now listing) (now book) cell ⌝ }
+    ensures { λ r. ⌜ r ≡ accountOf (now (listing .entry)) (now (book .entry)) cell ⌝ }
+{
+    let h = listing::head(listing);
+    let c = listing::cell(listing, cell);
+    let e = book::entry(book, cell);
+    Account {
+        entered: c.entered,
+        remaining: c.entered - (e.oxidised + e.burned),
+        oxidised: e.oxidised,
+        burned: e.burned,
+        kg: year::emission(h, c, e.oxidised, e.burned),
+        plan_year: e.plan,
+        withdrawn: e.withdrawn,
+    }
+}
+
+// Tells what the listing and the book say of a cell.
+pub fn statement(listing: &[u32], book: &[u32], cell: usize) -> Stated
+    ensures { λ r. ⌜ statedAs r ≡ stating (now (listing .entry)) (now (book .entry)) cell ⌝ }
+{
+    match reach(listing, book, cell) {
+        Outcome::Done => Stated::Told(account_of(listing, book, cell)),
+        Outcome::Refused(why) => Stated::Refused(why),
+    }
 }

@@ -1,0 +1,158 @@
+-- The book says what the history of its calls says, and each call keeps that. Assumes nothing.
+use mathlib.Core.Path.{_≡_, refl, ap, _∙_}
+use mathlib.Core.Bool.{Bool, true, false, cond}
+use mathlib.Core.List.{List, _∷_}
+use Prim.Native.Nat.{ℕ, suc, _+_, _≤_, _<_, max}
+use native.Mathlib.Omega.{arith}
+use native.Mathlib.Numerals.{add-one}
+use lib.Dec.{eqb}
+use lib.IntN.{ℤ}
+use Rattle.words.specs.Bits.{atLeast0}
+use Rattle.words.proofs.Signed.{by-test, atLeast0-less}
+use Rattle.listing.specs.Layout.{head, cells, row, cell}
+use Rattle.year.specs.declared.Entry.{Entry}
+use Rattle.year.specs.Year.{emission}
+use Rattle.book.specs.Layout.{year, issued, entry}
+use Rattle.book.specs.Check.{admittedOnly}
+use Rattle.balance.specs.Balance.{due, kgTo, balanceIn}
+use Rattle.closing.specs.Closing.{loss}
+use Rattle.ledger.specs.Calls.{closing, replanning, withdrawing, issuing}
+use Rattle.history.specs.History.{Call, Close, Replan, Withdraw, Issue, step, Event, Lines, Planned, Paid, Nothing, event, History, Start, yearIn, planIn, sumOf, oxidisedIn, burnedIn, kgIn, issuedIn, balanceAt, highest, EachClosing, dOf, StayedDry}
+use Rattle.history.proofs.Says.{Says, planned, marked}
+use Rattle.history.proofs.After.{closed-says, closed-line, closed-not, replanned-says, replanned-not, withdrawn-says, withdrawn-not, issued-says, issued-value, issued-not}
+use Rattle.year.proofs.Laws.{year-kg, year-dry}
+use Rattle.history.proofs.Totals.{balance-same}
+
+-- the book b is admitted and says what the history h says, and the claims hold of h. A record type with no name: at an event that
+-- changes nothing it computes to itself, and the old proof is the new one
+abbrev pub Inv : List ℕ → Start → List ℕ → History → Type 0
+Inv l s b h =
+    record {
+      admits : admittedOnly l b .done ≡ true;
+      year-is : year b ≡ yearIn s h;
+      issued-is : issued b ≡ issuedIn s h;
+      plan-is : (i : ℕ) → i < cells l → entry b i .plan ≡ planIn s h i;
+      oxidised-is : (i : ℕ) → i < cells l → entry b i .oxidised ≡ oxidisedIn s h i;
+      burned-is : (i : ℕ) → i < cells l → entry b i .burned ≡ burnedIn s h i;
+      kilos : (i : ℕ) → i < cells l → kgIn s h i ≡ emission (head l) (cell l i) (oxidisedIn s h i) (burnedIn s h i);
+      dry : (i : ℕ) → i < cells l → EachClosing (StayedDry l s i) h;
+      top : issuedIn s h ≡ highest l s h;
+    }
+
+-- the plan year of one of two entries, by a test
+plan-of : (c : Bool) (x y : Entry) (u w : ℕ) → x .plan ≡ u → y .plan ≡ w → cond c x y .plan ≡ cond c u w
+plan-of true x y u w e f = e
+plan-of false x y u w e f = f
+
+-- an issue brings the tonnes issued up to the balance
+issue-max : (z : ℤ) (tonnes : ℕ) → tonnes + due z tonnes ≡ max (atLeast0 z) tonnes
+unfolding due
+issue-max z tonnes = omega (arith, atLeast0-less z tonnes)
+
+module _ (l : List ℕ) (s : Start) (b : List ℕ) (h : History) (v : Inv l s b h) where
+  -- ---- a call that hands out nothing and leaves the book
+  kept-nothing : (b′ : List ℕ) → b′ ≡ b → Inv l s b′ (Nothing ∷ h)
+  unfolding yearIn planIn sumOf issuedIn highest EachClosing
+  kept-nothing b′ e = rw e v
+
+  -- ---- a closing with a lines buffer x
+  module _ (x : List ℕ) (done : closing l b x .answer .done ≡ true) where
+    -- cell i's kg line and its mm lines stay one sum's
+    closed-kilos : (i : ℕ) → i < cells l →
+        kgIn s h i + loss l b i .kg ≡ emission (head l) (cell l i) (oxidisedIn s h i + loss l b i .oxidised) (burnedIn s h i + loss l b i .burned)
+    closed-kilos i p =
+        rw (v .kilos i p, ← (v .oxidised-is i p), ← (v .burned-is i p)) (year-kg (head l) (row l) (cell l i) (entry b i) (year b + 1))
+
+    closed-dry : (i : ℕ) → i < cells l → 0 < loss l b i .burned → head l .guard + loss l b i .burned ≤ dOf l i (planIn s h i) (suc (yearIn s h))
+    unfolding dOf
+    closed-dry i p lt =
+        let d = year-dry (head l) (row l) (cell l i) (entry b i) (year b + 1) lt in
+        rw (← (v .year-is), ← (v .plan-is i p), ← (add-one (year b)), d .0) (d .1)
+
+    kept-close : Inv l s (closing l b x .book) (Lines (closing l b x .lines) ∷ h)
+    unfolding yearIn planIn sumOf issuedIn highest EachClosing
+    kept-close =
+        let says = closed-says l b x done in
+        let line = closed-line l b x done in
+        record {
+          admits = says .admits;
+          year-is = omega (arith, says .year-is, v .year-is);
+          issued-is = says .issued-is ∙ v .issued-is;
+          plan-is = λ i p. ap (λ (e : Entry). e .plan) (says .entry-is i p) ∙ v .plan-is i p;
+          oxidised-is = λ i p. omega (arith, ap (λ (e : Entry). e .oxidised) (says .entry-is i p), v .oxidised-is i p, line i p .0);
+          burned-is = λ i p. omega (arith, ap (λ (e : Entry). e .burned) (says .entry-is i p), v .burned-is i p, line i p .1);
+          kilos = λ i p. rw (line i p .0, line i p .1, line i p .2) (closed-kilos i p);
+          dry = λ i p. (rw (line i p .1) (closed-dry i p), v .dry i p);
+          top = v .top;
+        }
+
+  -- ---- a replan and a withdrawal change the entry of cell i; a field f that the change keeps stays what it was
+  module _ (b′ : List ℕ) (i : ℕ) (change : Entry → Entry) (says : Says l b′ (year b) (issued b) (λ j. cond (eqb i j) (change (entry b j)) (entry b j))) where
+    same-field : (f : Entry → ℕ) → ((e : Entry) → f (change e) ≡ f e) → (j : ℕ) → j < cells l → f (entry b′ j) ≡ f (entry b j)
+    same-field f keeps j p =
+        ap f (says .entry-is j p) ∙ by-test (λ (e : Entry). f e ≡ f (entry b j)) (eqb i j) (change (entry b j)) (entry b j) (λ here. keeps (entry b j)) (λ other. refl)
+
+  kept-replan : (i y : ℕ) → replanning l b i y .answer .done ≡ true → Inv l s (replanning l b i y .book) (Planned i y ∷ h)
+  unfolding yearIn planIn sumOf issuedIn highest EachClosing
+  kept-replan i y done =
+      let says = replanned-says l b i y done in
+      let same = same-field (replanning l b i y .book) i (λ (e : Entry). planned e y) says in
+      record {
+        admits = says .admits;
+        year-is = says .year-is ∙ v .year-is;
+        issued-is = says .issued-is ∙ v .issued-is;
+        plan-is = λ j p. ap (λ (e : Entry). e .plan) (says .entry-is j p) ∙ plan-of (eqb i j) (planned (entry b j) y) (entry b j) y (planIn s h j) refl (v .plan-is j p);
+        oxidised-is = λ j p. same (λ (e : Entry). e .oxidised) (λ e. refl) j p ∙ v .oxidised-is j p;
+        burned-is = λ j p. same (λ (e : Entry). e .burned) (λ e. refl) j p ∙ v .burned-is j p;
+        kilos = v .kilos;
+        dry = v .dry;
+        top = v .top;
+      }
+
+  kept-withdraw : (i : ℕ) → withdrawing l b i .answer .done ≡ true → Inv l s (withdrawing l b i .book) (Nothing ∷ h)
+  unfolding yearIn planIn sumOf issuedIn highest EachClosing
+  kept-withdraw i done =
+      let says = withdrawn-says l b i done in
+      let same = same-field (withdrawing l b i .book) i marked says in
+      record {
+        admits = says .admits;
+        year-is = says .year-is ∙ v .year-is;
+        issued-is = says .issued-is ∙ v .issued-is;
+        plan-is = λ j p. same (λ (e : Entry). e .plan) (λ e. refl) j p ∙ v .plan-is j p;
+        oxidised-is = λ j p. same (λ (e : Entry). e .oxidised) (λ e. refl) j p ∙ v .oxidised-is j p;
+        burned-is = λ j p. same (λ (e : Entry). e .burned) (λ e. refl) j p ∙ v .burned-is j p;
+        kilos = v .kilos;
+        dry = v .dry;
+        top = v .top;
+      }
+
+  -- ---- an issue
+  balance-is : balanceIn l b ≡ balanceAt l s h
+  balance-is = balance-same l (year b) (yearIn s h) (kgTo l b) (kgIn s h) (v .year-is) (λ i p. rw (v .kilos i p, v .oxidised-is i p, v .burned-is i p))
+
+  kept-issue : issuing l b .answer .done ≡ true → Inv l s (issuing l b .book) (Paid (issuing l b .answer .value) ∷ h)
+  unfolding yearIn planIn sumOf issuedIn highest EachClosing
+  kept-issue done =
+      let says = issued-says l b done in
+      record {
+        admits = says .admits;
+        year-is = says .year-is ∙ v .year-is;
+        issued-is = rw (issued-value l b done, ← (v .issued-is)) (says .issued-is);
+        plan-is = λ i p. rw (says .entry-is i p) (v .plan-is i p);
+        oxidised-is = λ i p. rw (says .entry-is i p) (v .oxidised-is i p);
+        burned-is = λ i p. rw (says .entry-is i p) (v .burned-is i p);
+        kilos = v .kilos;
+        dry = v .dry;
+        top = rw (issued-value l b done, ← balance-is, ← (v .top), ← (v .issued-is)) (issue-max (balanceIn l b) (issued b));
+      }
+
+  -- ---- every call, accepted or refused
+  pub kept-step : (c : Call) → Inv l s (step l b c .book) (event c (step l b c) ∷ h)
+  kept-step (Close x) =
+      by-test (λ (e : Event). Inv l s (closing l b x .book) (e ∷ h)) (closing l b x .answer .done) (Lines (closing l b x .lines)) Nothing (kept-close x) (λ refused. kept-nothing _ (closed-not l b x refused))
+  kept-step (Replan i y) =
+      by-test (λ (e : Event). Inv l s (replanning l b i y .book) (e ∷ h)) (replanning l b i y .answer .done) (Planned i y) Nothing (kept-replan i y) (λ refused. kept-nothing _ (replanned-not l b i y refused))
+  kept-step (Withdraw i) =
+      by-test (λ (e : Event). Inv l s (withdrawing l b i .book) (Nothing ∷ h)) (withdrawing l b i .answer .done) Nothing Nothing (kept-withdraw i) (λ refused. kept-nothing _ (withdrawn-not l b i refused))
+  kept-step Issue =
+      by-test (λ (e : Event). Inv l s (issuing l b .book) (e ∷ h)) (issuing l b .answer .done) (Paid (issuing l b .answer .value)) Nothing kept-issue (λ refused. kept-nothing _ (issued-not l b refused))

@@ -1,0 +1,31 @@
+-- `ledger::account_of` meets its contract: each figure is read where the definition reads it. Assumes nothing.
+use mathlib.Core.Path.{_≡_}
+use native.Mathlib.Omega.{arith}
+use denote.Ref.{now}
+use borrow.Author.Needs.{needs}
+use Rattle.year.specs.Fit.{Fit}
+use Rattle.ledger.specs.Calls.{accountOf}
+use Rattle.ledger.proofs.account_of.Statement.{statement}
+use Rattle.ledger.proofs.account_of.Tie as tie
+
+-- what is lost fits the cell
+fits : (c : tie.After-entry) → Fit (c .before .before .head .result) (c .before .cell .result) (c .entry .result .oxidised) (c .entry .result .burned)
+fits c = rw (c .before .before .head .ensures, c .before .cell .ensures, c .entry .ensures) (c .before .before .before .before .before .pre .fit)
+
+returns : tie.Need-returns
+unfolding accountOf
+returns c =
+    let entry = c .before .before .before in
+    rw (c .emission .ensures, entry .before .before .head .ensures, entry .before .cell .ensures, entry .entry .ensures)
+
+pub account-of-spec : {M : Type 1} → statement M
+account-of-spec =
+    tie.close
+    (tie.spec
+    (λ c κs. search needs)
+    (λ c κs. search needs)
+    (λ c κs. search needs)
+    (λ c. omega (arith, fits (c .before) .lost, fits (c .before) .cell-right .entered))
+    (λ c. omega (arith, fits (c .before .before) .lost))
+    (λ c κs. fits (c .before .before))
+    returns)

@@ -1,0 +1,65 @@
+-- `ledger::issue` meets its contract: what is due is answered, and added to what was issued. Assumes nothing.
+use mathlib.Core.Path.{_≡_, ap, ap₂, _∙_}
+use Prim.Native.Nat.{_+_, _<_, _^_}
+use native.Mathlib.Omega.{arith}
+use lib.ListN.{set}
+use denote.Ref.{now}
+use borrow.Author.Needs.{needs}
+use Rattle.book.specs.Layout.{issued, issuedWord}
+use Rattle.book.specs.Sound.{Sound}
+use Rattle.book.proofs.Sound.{sound-done}
+use Rattle.balance.specs.Balance.{tonnesDue}
+use Rattle.balance.proofs.Bounds.{issued-fits}
+use Rattle.ledger.specs.Calls.{issueAnswer, issuing}
+use Rattle.ledger.proofs.Settle.{settle-value, settle-value-bad}
+use Rattle.ledger.proofs.issue.Statement.{statement}
+use Rattle.ledger.proofs.issue.Tie as tie
+
+module _ (c : tie.After-enum-told) where
+  abbrev start : tie.Start
+  start = c .before .before .before .before .before .before
+
+  sound : Sound (now (start .args .listing)) (now (start .args .book))
+  sound = sound-done _ _ _ _ _ (c .before .before .admit .ensures) (c .enum-told .given .1)
+
+-- what is issued then
+sum : (c : tie.After-issued) →
+    let s = start (c .before .before .before .before) in
+    c .issued .result + c .before .before .tonnes-due .result ≡ issued (now (s .args .book)) + tonnesDue (now (s .args .listing)) (now (s .args .book))
+sum c = ap₂ _+_ (c .issued .ensures) (c .before .before .tonnes-due .ensures)
+
+small : (c : tie.After-issued) → c .issued .result + c .before .before .tonnes-due .result < 2 ^ 28
+small c =
+    let told = c .before .before .before .before in
+    let s = start told in
+    rw (sum c) (issued-fits (now (s .args .listing)) (now (s .args .book)) (sound told))
+
+done : tie.Need-returns
+unfolding issuing issueAnswer
+done c =
+    let told = c .before .before .before .before .before in
+    let s = start told in
+    settle-value _ _ (told .before .before .admit .ensures) (told .enum-told .given .1) _ _ _ _ _
+    (c .before .before .before .tonnes-due .ensures)
+    (ap (set (now (s .args .book)) 1) (c .word .ensures ∙ ap issuedWord (sum (c .before))))
+
+refused : tie.Need-returns-2
+unfolding issuing issueAnswer
+refused c = search (settle-value-bad)
+
+pub issue-spec : {M : Type 1} → statement M
+issue-spec =
+    tie.close
+    (tie.spec
+    (λ c κs. search needs)
+    (λ c. search needs)
+    (λ c κs. sound (c .before))
+    (λ c κs. omega (arith, sound (c .before .before .before) .fitted .room))
+    (λ c. omega (arith, small c))
+    (λ c κs. (omega arith, small c))
+    (λ c. omega (arith, sound (c .before .before .before .before .before) .fitted .room))
+    (λ c. search needs)
+    (λ c. search needs)
+    done
+    (λ c. search needs)
+    refused)

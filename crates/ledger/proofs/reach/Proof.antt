@@ -1,0 +1,14 @@
+-- `ledger::reach` meets its contract: what every call checks comes first. Assumes nothing.
+use borrow.Author.Needs.{needs}
+use Rattle.words.proofs.Answers.{answers}
+use Rattle.book.proofs.Sound.{sound-done}
+use Rattle.ledger.specs.Calls.{reached}
+use Rattle.ledger.proofs.reach.Statement.{statement}
+use Rattle.ledger.proofs.reach.Tie as tie
+
+asked : tie.Need-check-cell-requires
+asked c κs = sound-done _ _ _ _ _ (c .before .before .admit .ensures) (c .enum-told .given .1) .fitted .accepted
+
+pub reach-spec : {M : Type 1} → statement M
+unfolding reached
+reach-spec = tie.close (tie.spec (λ c κs. search needs) (λ c. search needs) asked (λ c. search needs) (λ c. search answers) (λ c. search answers))
