@@ -42,7 +42,8 @@ fn cell_loss(listing: &[u32], h: Head, i: usize, e: Entry, year: u32) -> Loss
             kg: 0,
         };
     }
-    let r = listing::row(listing, c.stratum, year - e.plan + 1);
+    let age = year - e.plan + 1;
+    let r = listing::row(listing, c.stratum, age);
     year::loss_of(h, c, r, e)
 }
 

@@ -1,5 +1,5 @@
 -- What a call leaves, by the outcome o of its tests: `a` is their answer. Assumes nothing.
-use mathlib.Core.Path.{_≡_, refl, sym, ap, ap₂, _∙_}
+use mathlib.Core.Path.{_≡_, sym, ap, _∙_}
 use mathlib.Core.Bool.{cond}
 use mathlib.Core.List.{List}
 use Prim.Native.Nat.{ℕ}
@@ -8,7 +8,7 @@ use Rattle.words.specs.declared.Refusal.{Refusal}
 use Rattle.words.specs.declared.Outcome.{Outcome}
 use Rattle.words.specs.declared.Outcome.the-variants.{Done, Refused}
 use Rattle.ledger.specs.declared.Account.{Account}
-use Rattle.ledger.specs.Calls.{Left, leaves, written, settle, LeftLines, leavesLines, Telling, noAccount}
+use Rattle.ledger.specs.Calls.{leaves, written, settle, leavesLines, Telling, noAccount}
 
 module _ (o : Outcome) (a : Answer) (e : outcome o ≡ a) where
   -- passed: the slice holds what was written

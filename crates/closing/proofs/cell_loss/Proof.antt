@@ -1,5 +1,6 @@
 -- `closing::cell_loss` meets its contract: the row is that of the cell's own stratum and age. Assumes nothing.
 use borrow.Author.Needs.{needs}
+use native.Mathlib.Omega.{arith}
 use Rattle.closing.proofs.Closable.{asleep-loss, awake-age, awake-fit, awake-loss}
 use Rattle.closing.proofs.cell_loss.Statement.{statement}
 use Rattle.closing.proofs.cell_loss.Tie as tie
@@ -7,14 +8,15 @@ use Rattle.closing.proofs.cell_loss.Tie as tie
 returns : tie.Need-returns
 returns c = asleep-loss (c .before .before .before .before .pre) _ (c .before .before .cell .ensures) _ (c .before .rests .ensures) (c .if1 .taken)
 
-sub-row : tie.Need-sub-row
-sub-row c = awake-age (c .before .before .before .before .before .pre) _ (c .before .before .before .cell .ensures) _ (c .before .before .rests .ensures) (c .before .if1 .left) .0
+sub-age : tie.Need-sub-age
+sub-age c = awake-age (c .before .before .before .before .before .pre) _ (c .before .before .before .cell .ensures) _ (c .before .before .rests .ensures) (c .before .if1 .left) .0
 
 row-requires : tie.Need-row-requires
 row-requires c κs =
     let s = c .before .before .before .before .before in
     let a = awake-age (s .pre) _ (c .before .before .before .cell .ensures) _ (c .before .before .rests .ensures) (c .before .if1 .left) in
-    (s .pre .accepted, a .1, a .2, a .3)
+    let time = s .pre .in-time in
+    (s .pre .accepted, a .1, omega arith, omega arith)
 
 loss-of-requires : tie.Need-loss-of-requires
 loss-of-requires c κs =
@@ -27,4 +29,4 @@ returns-2 c =
     awake-loss (s .pre) _ (c .before .before .before .before .before .cell .ensures) _ (c .before .before .before .before .rests .ensures) (c .before .before .before .if1 .left) _ (c .before .row .ensures) _ (c .loss-of .ensures)
 
 pub cell-loss-spec : {M : Type 1} → statement M
-cell-loss-spec = tie.close (tie.spec (λ c κs. search needs) (λ c κs. search needs) returns sub-row (λ c. search needs) row-requires loss-of-requires returns-2)
+cell-loss-spec = tie.close (tie.spec (λ c κs. search needs) (λ c κs. search needs) returns sub-age (λ c. search needs) row-requires loss-of-requires returns-2)

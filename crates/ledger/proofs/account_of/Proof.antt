@@ -1,7 +1,5 @@
 -- `ledger::account_of` meets its contract: each figure is read where the definition reads it. Assumes nothing.
-use mathlib.Core.Path.{_≡_}
 use native.Mathlib.Omega.{arith}
-use denote.Ref.{now}
 use borrow.Author.Needs.{needs}
 use Rattle.year.specs.Fit.{Fit}
 use Rattle.ledger.specs.Calls.{accountOf}

@@ -1,5 +1,5 @@
 -- `ledger::check_cell` meets its contract: its test is the definition's. Assumes nothing.
-use mathlib.Core.Path.{refl, ap}
+use mathlib.Core.Path.{_≡_, refl, ap}
 use Prim.Native.Nat.{_≤_, _<_}
 use native.Mathlib.Omega.{arith}
 use denote.Ref.{now}
@@ -12,20 +12,28 @@ use Rattle.ledger.specs.Calls.{cellChecked}
 use Rattle.ledger.proofs.check_cell.Statement.{statement}
 use Rattle.ledger.proofs.check_cell.Tie as tie
 
+-- the program's number of cells is the listing's
+module _ (c : tie.After-struct-known) where
+  abbrev start : tie.Start
+  start = c .before .before .before
+
+  count : c .before .head .result .cells ≡ cells (now (start .args .listing))
+  count = ap (λ (h : Head). h .cells) (c .before .head .ensures)
+
 refused : tie.Need-returns
 unfolding cellChecked
 refused c =
-    let head = c .before .before .before in
-    let start = head .before .before in
-    let past : cells (now (start .args .listing)) ≤ start .args .cell = omega (arith, ap (λ (h : Head). h .cells) (head .head .ensures), c .before .if1 .taken) in
+    let read = c .before .before in
+    let s = start read in
+    let past : cells (now (s .args .listing)) ≤ s .args .cell = omega (arith, count read, c .before .if1 .taken) in
     need-bad _ _ _ _ _ (le-ltb _ _ past) (c .refuse .ensures)
 
 passed : tie.Need-returns-2
 unfolding cellChecked
 passed c =
-    let head = c .before .before in
-    let start = head .before .before in
-    let there : start .args .cell < cells (now (start .args .listing)) = omega (arith, ap (λ (h : Head). h .cells) (head .head .ensures), c .if1 .left) in
+    let read = c .before in
+    let s = start read in
+    let there : s .args .cell < cells (now (s .args .listing)) = omega (arith, count read, c .if1 .left) in
     need-next _ _ _ _ _ (lt-ltb _ _ there) refl
 
 pub check-cell-spec : {M : Type 1} → statement M

