@@ -143,7 +143,7 @@ module _ (l : List ℕ) (s : Start) (b : List ℕ) (h : History) (v : Inv l s b 
         burned-is = λ i p. rw (says .entry-is i p) (v .burned-is i p);
         kilos = v .kilos;
         dry = v .dry;
-        top = rw (issued-value l b done, ← balance-is, ← (v .top), ← (v .issued-is)) (issue-max (balanceIn l b) (issued b));
+        top = omega (arith, issued-value l b done, ap atLeast0 balance-is, v .top, v .issued-is, issue-max (balanceIn l b) (issued b));
       }
 
   -- ---- every call, accepted or refused
