@@ -2,6 +2,8 @@
 // and then the number, the place and the value of the answer; crates/trials/stdout has what document
 // 01 gives.
 use discount::Discounted;
+use ledger::Issued;
+use ledger::Stated;
 use reading::Measured;
 use reading::Reading;
 use words::Outcome;
@@ -17,14 +19,52 @@ fn line(name: &[u8], number: u64, place: u64, value: u64) {
     io::write_all(1, b"\n");
 }
 
-fn checked(name: &[u8], listing: &[u32]) {
-    match listing::check(listing) {
+fn answered(name: &[u8], answer: Outcome) {
+    match answer {
         Outcome::Done => {
             line(name, 0, 0, 0);
         }
         Outcome::Refused(r) => {
             line(name, r.number as u64, r.place as u64, 0);
         }
+    }
+}
+
+fn checked(name: &[u8], listing: &[u32]) {
+    answered(name, listing::check(listing));
+}
+
+fn paid(name: &[u8], answer: Issued) {
+    match answer {
+        Issued::Tonnes(t) => {
+            line(name, 0, 0, t as u64);
+        }
+        Issued::Refused(r) => {
+            line(name, r.number as u64, r.place as u64, 0);
+        }
+    }
+}
+
+// What remains of a cell.
+fn remains(name: &[u8], answer: Stated) {
+    match answer {
+        Stated::Told(a) => {
+            line(name, 0, 0, a.remaining as u64);
+        }
+        Stated::Refused(r) => {
+            line(name, r.number as u64, r.place as u64, 0);
+        }
+    }
+}
+
+// The three lines of cell `i`, each on a line of its own: mm oxidised, mm burned, kg.
+fn handed(name: &[u8], lines: &[u32], i: usize) {
+    let mut k: usize = 0;
+    while k < lines.len() {
+        if k / 3 == i {
+            line(name, 0, 0, (lines[k] % 268_435_456) as u64);
+        }
+        k += 1;
     }
 }
 
@@ -171,7 +211,91 @@ fn discounts() {
     );
 }
 
+// What is refused of a book that was not opened, and of buffers that are too short.
+fn unopened(l: &[u32], b: &mut [u32], x: &mut [u32]) {
+    answered(b"close of a book of zeros", ledger::close(l, b, x));
+    answered(b"no book", ledger::open(l, &mut []));
+    answered(b"open", ledger::open(l, b));
+    answered(b"no lines", ledger::close(l, b, &mut []));
+    paid(b"issue in year 0", ledger::issue(l, b));
+}
+
+// A closing and an issue.
+fn year(l: &[u32], b: &mut [u32], x: &mut [u32], i: usize) {
+    answered(b"close", ledger::close(l, b, &mut x[..]));
+    handed(b"its lines", &x[..], i);
+    paid(b"issue", ledger::issue(l, b));
+}
+
+// What is refused once the horizon is reached and the cell is converted.
+fn converted(l: &[u32], b: &mut [u32], x: &mut [u32]) {
+    answered(b"close at the horizon", ledger::close(l, b, x));
+    answered(b"replan of a converted cell", ledger::replan(l, b, 0, 0));
+    remains(b"left", ledger::statement(l, &b[..], 0));
+    remains(b"no such cell", ledger::statement(l, &b[..], 1));
+}
+
+fn withdrawn(l: &[u32], b: &mut [u32]) {
+    answered(b"withdraw", ledger::withdraw(l, b, 0));
+    answered(b"withdraw again", ledger::withdraw(l, b, 0));
+}
+
+// The worked listing: open, and two years, each with its issue.
+fn worked() {
+    let l = [
+        0x1001_0102u32,
+        0x2014_190c,
+        0x3460_b554,
+        0x3460_b400,
+        0x4001_07d0,
+        0x5271_01f4,
+        0x6505_ff9c,
+    ];
+    let mut b = [0u32; 5];
+    let mut x = [0u32; 3];
+    unopened(&l[..6], &mut b, &mut x);
+    year(&l[..6], &mut b, &mut x, 0);
+    year(&l[..6], &mut b, &mut x, 0);
+    converted(&l[..6], &mut b, &mut x);
+    withdrawn(&l[..6], &mut b);
+    answered(b"open with 6505FF9C appended", ledger::open(&l, &mut b));
+    year(&l, &mut b, &mut x, 0);
+    year(&l, &mut b, &mut x, 0);
+}
+
+// Two cells of two strata, of which the second is not drained. The cell of the worked listing comes
+// first and is withdrawn: what lies behind it loses nothing. Then they change places.
+fn neighbours() {
+    let mut l = [
+        0x1002_0202u32,
+        0x2014_190c,
+        0x3460_b554,
+        0x3460_b400,
+        0x3000_b554,
+        0x3000_b400,
+        0x4001_07d0,
+        0x5271_01f4,
+        0x4101_07d0,
+        0x5271_01f4,
+    ];
+    let mut b = [0u32; 8];
+    let mut x = [0u32; 6];
+    answered(b"open two cells", ledger::open(&l, &mut b));
+    answered(b"withdraw the drained one", ledger::withdraw(&l, &mut b, 0));
+    year(&l, &mut b, &mut x, 1);
+    l[6] = 0x4101_07d0;
+    l[8] = 0x4001_07d0;
+    answered(b"open them in another order", ledger::open(&l, &mut b));
+    answered(
+        b"withdraw the undrained one",
+        ledger::withdraw(&l, &mut b, 0),
+    );
+    year(&l, &mut b, &mut x, 1);
+}
+
 fn main() {
+    worked();
+    neighbours();
     listings();
     terms();
     readings();
