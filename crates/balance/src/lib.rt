@@ -7,7 +7,7 @@ ghost use Rattle.words.specs.Bits.{atLeast0};
 ghost use Rattle.listing.specs.Layout.{cells};
 ghost use Rattle.listing.specs.Accepted.{Accepted};
 ghost use Rattle.book.specs.Sound.{Sound};
-ghost use Rattle.balance.specs.Balance.{overCells, peatTonnes, mostPeat, toDate, withheld, balanceOf, due, kgTo, balanceIn, tonnesDue};
+ghost use Rattle.balance.specs.Balance.{overCells, peatTonnes, mostPeat, toDate, withheld, balanceOf, due, kgTo, tonnesDue};
 
 // The kg to date of all cells, added.
 fn kg_to_date(listing: &[u32], book: &[u32]) -> u64

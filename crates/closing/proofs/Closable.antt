@@ -1,10 +1,10 @@
 -- What the steps of a closing are given, from its answers. Assumes nothing.
 use mathlib.Core.Path.{_≡_, refl, sym, ap, _∙_}
-use mathlib.Core.Bool.{Bool, true, false, _||_}
+use mathlib.Core.Bool.{Bool, true, false}
 use mathlib.Core.List.{List, [], _∷_}
-use Prim.Native.Nat.{ℕ, zero-le, _+_, _-_, _*_, _^_, _≤_, _<_}
+use Prim.Native.Nat.{ℕ, zero-le, _+_, _≤_, _<_}
 use native.Mathlib.Omega.{arith}
-use lib.Dec.{eqb, ltb, leb}
+use lib.Dec.{eqb, ltb}
 use lib.ListN.{length, getD, set}
 use borrow.Author.Tests.{le-leb, lt-leb, leb-true, ltb-true, ltb-false, eqb-false}
 use Rattle.words.specs.Answers.{Answer, outcome}
@@ -21,9 +21,9 @@ use Rattle.year.specs.Fit.{Fit}
 use Rattle.year.specs.declared.Entry.{Entry}
 use Rattle.year.specs.declared.Loss.{Loss}
 use Rattle.year.proofs.Laws.{or-false, awake, most-entered, year-most}
-use Rattle.book.specs.Layout.{entryWords, lineWords, year, entryOf, entry, oxidisedWord, burnedWord}
+use Rattle.book.specs.Layout.{entryWords, lineWords, entryOf, entry, oxidisedWord, burnedWord}
 use Rattle.book.specs.Check.{admitted, bookChecked}
-use Rattle.book.specs.Sound.{Room, Sound}
+use Rattle.book.specs.Sound.{Room}
 use Rattle.book.proofs.Sound.{sound, sound-room}
 use Rattle.closing.specs.Closing.{loss, wordsAfter, mostNumber, fineLine, yearChecked, closeAnswer}
 use Rattle.closing.specs.Closing as closing

@@ -1,7 +1,6 @@
 // The closing of a year: a first pass reads and decides, a second writes, cell by cell.
 ghost use mathlib.Core.Path.{_≡_};
-ghost use mathlib.Core.Bool.{true};
-ghost use Prim.Native.Nat.{_+_, _^_, _<_, _≤_};
+ghost use Prim.Native.Nat.{_+_, _<_, _≤_};
 ghost use lib.ListN.{length};
 ghost use Rattle.words.specs.Search.{firstWrong};
 ghost use Rattle.words.specs.Answers.{outcome};

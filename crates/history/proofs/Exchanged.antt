@@ -1,15 +1,15 @@
 -- Two blocks of a list that change places: each word, a list that is filled anew, a word that is set, a sum. Assumes nothing.
 use mathlib.Core.Path.{_≡_, refl, sym, ap, _∙_}
 use mathlib.Core.Bool.{Bool, true, false}
-use mathlib.Core.List.{List, _++_}
+use mathlib.Core.List.{List}
 use Prim.Native.Nat.{ℕ, _+_, _-_, _*_, _/_, _%_, _≤_, _<_}
 use native.Mathlib.Nat.{zero-add, mod-lt, div-add-mod, le-div-iff-mul-le, div-lt-iff-lt-mul, mul-add-div, div-eq-of-lt, mul-add-mod-self-left, mod-eq-of-lt, add-zero, mul-le-mul-left, mul-suc}
 use native.Mathlib.Omega.{arith}
 use lib.Dec.{eqb, ltb}
-use lib.ListN.{length, getD, set, take, drop, length-set, length-drop, List·getD-append}
-use lib.Seq.{length-take-le, getD-take, getD-drop, getD-append-add, getD-set-same, getD-set-other, ext-getD}
+use lib.ListN.{length, getD, set, drop, length-set, length-drop}
+use lib.Seq.{getD-drop, getD-set-same, getD-set-other, ext-getD}
 use borrow.Author.Tests.{ltb-true, ltb-false, eqb-true, eqb-false}
-use Rattle.words.specs.Blocks.{blocks, filled}
+use Rattle.words.specs.Blocks.{filled}
 use Rattle.words.proofs.Blocks.{length-filled, filled-before, filled-word, filled-behind}
 use Rattle.words.proofs.Signed.{by-test}
 use Rattle.history.specs.Order.{origin, Exchanged}

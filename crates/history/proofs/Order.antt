@@ -4,11 +4,10 @@ use mathlib.Core.Bool.{Bool, true, false, cond}
 use mathlib.Core.List.{List}
 use Prim.Native.Nat.{ℕ, _+_, _-_, _*_, _/_, _≤_, _<_}
 use native.Mathlib.Omega.{arith}
-use lib.Dec.{leb, eqb}
+use lib.Dec.{leb}
 use lib.ListN.{length, getD, set, drop}
-use borrow.Author.Tests.{leb-true, ltb-true, ltb-false, eqb-false}
 use Rattle.words.specs.Answers.{Answer, accepted}
-use Rattle.words.proofs.Answers.{need-says, after-says}
+use Rattle.words.proofs.Answers.{after-says}
 use Rattle.words.proofs.Blocks.{length-filled}
 use Rattle.words.proofs.Steps.{row-within}
 use Rattle.fields.specs.Fields.{rowOf}
@@ -21,8 +20,6 @@ use Rattle.year.specs.declared.Entry.{Entry}
 use Rattle.year.specs.declared.Loss.{Loss}
 use Rattle.year.specs.Year.{unconverted, age, kgOf}
 use Rattle.book.specs.Layout.{bookHead, entryWords, lineWords, year, issued, entry, yearWord, issuedWord, linesOf}
-use Rattle.book.specs.Check.{bookChecked, admitted}
-use Rattle.book.specs.Sound.{Sound}
 use Rattle.balance.specs.Balance.{peatTonnes, balanceOf, kgTo, tonnesDue}
 use Rattle.closing.specs.Closing.{wordsAfter, closedWords, closedLines, bookAfter, linesAfter, mostNumber, fineLine, yearChecked, closeAnswer}
 use Rattle.closing.proofs.Closable.{converted, closable}

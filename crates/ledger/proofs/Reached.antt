@@ -2,20 +2,16 @@
 use mathlib.Core.Path.{_≡_, refl, sym, ap, _∙_}
 use mathlib.Core.Bool.{Bool, true, false, _&&_, _||_}
 use mathlib.Core.List.{List}
-use Prim.Native.Nat.{ℕ, _+_, _*_, _^_, _≤_, _<_}
+use Prim.Native.Nat.{ℕ, _^_, _≤_, _<_}
 use native.Mathlib.Omega.{arith}
 use lib.Dec.{eqb, ltb, leb}
-use lib.ListN.{length}
 use borrow.Author.Tests.{leb-true, ltb-true, eqb-true, not-true}
 use Rattle.words.specs.Answers.{Answer, outcome}
 use Rattle.words.specs.declared.Outcome.{Outcome}
 use Rattle.words.specs.declared.Outcome.the-variants.{Done}
 use Rattle.words.proofs.Answers.{need-says, after-says, and-right}
-use Rattle.listing.specs.Layout.{head, cells, horizon, cell}
-use Rattle.listing.specs.Accepted.{Accepted}
+use Rattle.listing.specs.Layout.{horizon}
 use Rattle.book.specs.Layout.{year, entry}
-use Rattle.book.specs.Check.{admittedOnly}
-use Rattle.book.specs.Sound.{Sound}
 use Rattle.book.proofs.Sound.{sound, sound-room}
 use Rattle.ledger.specs.Calls.{cellChecked, reached, markChecked, standing, ahead, planChecked, replanAnswer}
 use Rattle.ledger.specs.Reached.{Reached}

@@ -3,8 +3,7 @@ use Prim.Native.Nat.{ℕ, _<_}
 use mathlib.Core.Path.{_≡_}
 use mathlib.Core.Bool.{true}
 use mathlib.Core.List.{List}
-use Rattle.fields.specs.Right.{CellRight}
-use Rattle.listing.specs.Layout.{head, cells, strata, horizon, cell}
+use Rattle.listing.specs.Layout.{head, cells, cell}
 use Rattle.year.specs.Fit.{Fit}
 use Rattle.book.specs.Layout.{entry}
 use Rattle.book.specs.Check.{admittedOnly}

@@ -10,7 +10,7 @@ ghost use Rattle.words.specs.Blocks.{filled};
 ghost use Rattle.listing.specs.Layout.{cells};
 ghost use Rattle.listing.specs.Accepted.{Accepted};
 ghost use Rattle.book.specs.Layout.{bookHead, entryWords, planWord, oxidisedWord, burnedWord};
-ghost use Rattle.book.specs.Sound.{Fitted, Room, Sound};
+ghost use Rattle.book.specs.Sound.{Fitted, Room};
 ghost use Rattle.ledger.specs.Calls.{leaves, openHead, openWords, openBook, opening, leavesLines, closing, cellChecked, reached, markChecked, standing, planChecked, replanAnswer, replanning, withdrawing, issuedAs, issuing, statedAs, accountOf, stating};
 ghost use Rattle.ledger.specs.Reached.{Reached};
 use book::BOOK_HEAD;

@@ -1,6 +1,6 @@
 -- Document 01, "A cell's year": what a cell loses, by the listing's figures h and c, its table's row r, and its entry e in the book.
 use Prim.Native.Nat.{ℕ, _+_, _-_, _*_, _/_, min}
-use mathlib.Core.Bool.{Bool, cond, false, _||_}
+use mathlib.Core.Bool.{Bool, cond, _||_}
 use lib.Dec.{ltb, eqb}
 use Rattle.fields.specs.declared.Head.{Head}
 use Rattle.fields.specs.declared.Row.{Row}

@@ -1,7 +1,7 @@
 -- `closing::first_large` meets its contract: the search has come to cell i. Assumes nothing.
 use borrow.Author.Needs.{needs}
 use mathlib.Core.Path.{_≡_}
-use Prim.Native.Nat.{zero-le, _+_, _-_, _≤_, _<_}
+use Prim.Native.Nat.{zero-le, _-_, _≤_}
 use native.Mathlib.Omega.{arith}
 use Rattle.words.proofs.Steps.{Passed, passed-none, passed-more, passed-stop, passed-all, steps}
 use Rattle.listing.specs.Layout.{cells}
