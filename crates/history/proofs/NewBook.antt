@@ -1,5 +1,5 @@
 -- What the book says that an open leaves. Assumes nothing.
-use mathlib.Core.Path.{_≡_, refl, sym, ap, _∙_}
+use mathlib.Core.Path.{_≡_, sym, ap, _∙_}
 use mathlib.Core.Bool.{true, false}
 use mathlib.Core.List.{List, _++_}
 use Prim.Native.Nat.{ℕ, zero-le, _*_, _^_, _<_}
@@ -17,6 +17,7 @@ use Rattle.book.proofs.Words.{plan-of, mark-of, year-right, issued-right, plan-
 use Rattle.book.proofs.Right.{WordsRight}
 use Rattle.book.proofs.Sound.{fitted-says}
 use Rattle.book.proofs.Keeps.{fitted-length}
+use Rattle.ledger.proofs.Opened.{three-opened}
 use Rattle.ledger.specs.Calls.{openHead, openWords, openBook}
 use Rattle.history.proofs.Says.{Says}
 use Rattle.history.proofs.Stores.{says-as, says-filled, most-small}
@@ -59,10 +60,6 @@ module _ (l b : List ℕ) (fits : fitted l b .done ≡ true) where
       let y : cell l i .conversion < 2 ^ 8 = omega (arith, here .cell-right i lt .conversion, small) in
       rw (plan-of false (cell l i .conversion) y, mark-of false (cell l i .conversion) y)
 
-  open-sized : (i : ℕ) → length (openWords l i) ≡ entryWords
-  unfolding openWords
-  open-sized i = refl
-
   pub open-says : Says l (openBook l b) 0 0 (untouched l)
   unfolding year issued
   open-says =
@@ -72,7 +69,7 @@ module _ (l b : List ℕ) (fits : fitted l b .done ≡ true) where
       (year-right (horizon l) 0 zero-le (omega (arith, small)))
       (issued-right 0 (omega arith))
       (openWords l)
-      open-sized
+      (three-opened l)
       opened-right)
       (untouched l)
       opened-entry)

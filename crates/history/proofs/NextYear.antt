@@ -1,21 +1,22 @@
 -- What the book and the lines say that a closing leaves. Assumes nothing.
-use mathlib.Core.Path.{_≡_, refl, ap, _∙_}
+use mathlib.Core.Path.{_≡_, ap, _∙_}
 use mathlib.Core.List.{List}
 use Prim.Native.Nat.{ℕ, zero-le, _+_, _*_, _^_, _≤_, _<_}
 use native.Mathlib.Omega.{arith}
 use native.Mathlib.Nat.{zero-add}
-use lib.ListN.{length, getD}
+use lib.ListN.{getD}
 use Rattle.words.proofs.Blocks.{filled-word}
 use Rattle.fields.specs.declared.Head.{Head}
 use Rattle.fields.specs.declared.Cell.{Cell}
 use Rattle.listing.specs.Layout.{head, cells, row, cell}
 use Rattle.year.specs.Year.{mostLoss}
 use Rattle.year.specs.declared.Loss.{Loss}
-use Rattle.book.specs.Layout.{entryWords, lineWords, number, year, issued, entryOf, wordsOf, entry, linesOf}
+use Rattle.book.specs.Layout.{lineWords, number, year, issued, entryOf, wordsOf, entry, linesOf}
 use Rattle.book.proofs.Words.{number-of, oxidised-right, burned-right}
 use Rattle.book.proofs.Right.{WordsRight, admitted-right}
 use Rattle.book.proofs.Keeps.{admitted-fitted}
 use Rattle.closing.specs.Closable.{Closable}
+use Rattle.closing.proofs.Turn.{three-words, three-lines}
 use Rattle.closing.specs.Closing.{loss, wordsAfter, closedWords, closedLines, bookAfter, linesAfter}
 use Rattle.history.specs.History.{oxidisedLine, burnedLine, kgLine}
 use Rattle.history.proofs.Says.{Says, grown}
@@ -54,29 +55,21 @@ module _ (l b : List ℕ) (room : ℕ) (p : Closable l b room) where
   unfolding closedWords
   closed-entry i lt = after-entry (head l) (cell l i) (wordsOf b i) (loss l b i) (lost i lt) (small i lt)
 
-  closed-sized : (i : ℕ) → length (closedWords l b i) ≡ entryWords
-  unfolding closedWords wordsAfter
-  closed-sized i = refl
-
   -- all words: the cells', then the year's
   pub year-says : Says l (bookAfter l b) (year b + 1) (issued b) (λ i. grown (entry b i) (loss l b i))
   unfolding bookAfter
   year-says =
       let r = admitted-right l b lineWords room (p .admits) in
       says-year
-      (says-as (says-filled l b (admitted-fitted l b lineWords room (p .admits)) (r .year) (r .issued) (closedWords l b) closed-sized closed-right) _ closed-entry)
+      (says-as (says-filled l b (admitted-fitted l b lineWords room (p .admits)) (r .year) (r .issued) (closedWords l b) (three-words l b) closed-right) _ closed-entry)
       (year b + 1)
       (omega (arith, p .ahead))
 
   -- the lines of cell i
   module _ (x : List ℕ) (i : ℕ) (lt : i < cells l) where
-    line-sized : (k : ℕ) → length (closedLines l b k) ≡ lineWords
-    unfolding closedLines linesOf
-    line-sized k = refl
-
     line-word : (j : ℕ) → j < lineWords → getD (linesAfter l b x) (lineWords * i + j) 0 ≡ getD (closedLines l b i) j 0
     unfolding linesAfter
-    line-word j h = rw zero-add at (filled-word lineWords x 0 (closedLines l b) line-sized zero-le (cells l) i j lt h)
+    line-word j h = rw zero-add at (filled-word lineWords x 0 (closedLines l b) (three-lines l b) zero-le (cells l) i j lt h)
 
     pub year-lines :
         (oxidisedLine (linesAfter l b x) i ≡ loss l b i .oxidised) × (burnedLine (linesAfter l b x) i ≡ loss l b i .burned) × (kgLine (linesAfter l b x) i ≡ loss l b i .kg)

@@ -19,10 +19,11 @@ use Rattle.terms.specs.Terms.{total, counted, termsToDate}
 use Rattle.year.specs.declared.Entry.{Entry}
 use Rattle.year.specs.declared.Loss.{Loss}
 use Rattle.year.specs.Year.{unconverted, age, kgOf}
-use Rattle.book.specs.Layout.{bookHead, entryWords, lineWords, year, issued, entry, yearWord, issuedWord, linesOf}
+use Rattle.book.specs.Layout.{bookHead, entryWords, lineWords, year, issued, entry, yearWord, issuedWord}
 use Rattle.balance.specs.Balance.{peatTonnes, balanceOf, kgTo, tonnesDue}
-use Rattle.closing.specs.Closing.{wordsAfter, closedWords, closedLines, bookAfter, linesAfter, mostNumber, fineLine, yearChecked, closeAnswer}
+use Rattle.closing.specs.Closing.{closedWords, closedLines, bookAfter, linesAfter, mostNumber, fineLine, yearChecked, closeAnswer}
 use Rattle.closing.proofs.Closable.{converted, closable}
+use Rattle.closing.proofs.Turn.{three-words, three-lines}
 use Rattle.ledger.specs.Calls.{written, closing, issueAnswer, issuing}
 use Rattle.history.specs.Order.{SameYear, origin, Exchanged, ListingExchanged, BookExchanged, LinesExchanged, OrderFree}
 use Rattle.book.proofs.Sound.{sound}
@@ -35,14 +36,6 @@ use Rattle.history.proofs.Alike.{need-keeps, every-keeps, after-keeps, 
 -- a converted cell's age is a year of its table, 1 to t
 age-within : (plan t : ℕ) → unconverted plan t ≡ false → (1 ≤ age plan t) × (age plan t ≤ t)
 age-within plan t e = let c = converted plan t e in (omega arith, omega arith)
-
-words-sized : (l b : List ℕ) (m : ℕ) → length (closedWords l b m) ≡ entryWords
-unfolding closedWords wordsAfter
-words-sized l b m = refl
-
-lines-sized : (l b : List ℕ) (m : ℕ) → length (closedLines l b m) ≡ lineWords
-unfolding closedLines linesOf
-lines-sized l b m = refl
 
 module _ {i j : ℕ} {l l′ b b′ : List ℕ} (p : i < cells l) (q : j < cells l) (el : ListingExchanged i j l l′) (eb : BookExchanged i j b b′) where
   -- ---- a cell's year
@@ -94,17 +87,17 @@ module _ {i j : ℕ} {l l′ b b′ : List ℕ} (p : i < cells l) (q : j < cells
       let fits = s .sound .fitted .room in
       rw (year-is p q el eb, cells-is p q el)
       (set-exchanged
-      (filled-exchanged entryWords bookHead i j (cells l) b b′ (closedWords l b) (closedWords l′ b′) (words-sized l b) (words-sized l′ b′) fits p q eb
+      (filled-exchanged entryWords bookHead i j (cells l) b b′ (closedWords l b) (closedWords l′ b′) (three-words l b) (three-words l′ b′) fits p q eb
       (λ m lt. own-year (s .sound .fitted .accepted) (s .ahead) m lt .words-are))
       0 (yearWord (year b + 1)) (omega arith)
-      (omega (arith, length-filled entryWords b bookHead (closedWords l b) (words-sized l b) (omega arith) (cells l) fits)))
+      (omega (arith, length-filled entryWords b bookHead (closedWords l b) (three-words l b) (omega arith) (cells l) fits)))
 
   lines-exchanged : (x x′ : List ℕ) → LinesExchanged i j x x′ → closeAnswer l b (length x) .done ≡ true → LinesExchanged i j (linesAfter l b x) (linesAfter l′ b′ x′)
   unfolding linesAfter
   lines-exchanged x x′ ex done =
       let s = closable l b (length x) done in
       rw (cells-is p q el)
-      (filled-exchanged lineWords 0 i j (cells l) x x′ (closedLines l b) (closedLines l′ b′) (lines-sized l b) (lines-sized l′ b′) (let r = s .room in omega arith) p q ex
+      (filled-exchanged lineWords 0 i j (cells l) x x′ (closedLines l b) (closedLines l′ b′) (three-lines l b) (three-lines l′ b′) (let r = s .room in omega arith) p q ex
       (λ m lt. own-year (s .sound .fitted .accepted) (s .ahead) m lt .lines-are))
 
   -- ---- an issue

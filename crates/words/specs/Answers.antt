@@ -6,7 +6,7 @@ use Rattle.words.specs.Search.{firstWrong}
 use Rattle.words.specs.declared.Outcome.{Outcome}
 use Rattle.words.specs.declared.Outcome.the-variants.{Done, Refused}
 
--- an accepted call answers number 0 at place 0 and its value; a refused one its number and place and the value 0
+-- a call that is accepted (`done`) answers number 0 at place 0 and its value; a refused one its number and place and the value 0
 pub record Answer : Type 0 where
   pub done : Bool
   pub number : ℕ

@@ -6,6 +6,11 @@ use Rattle.ledger.proofs.Settle.{settles}
 use Rattle.ledger.proofs.close.Statement.{statement}
 use Rattle.ledger.proofs.close.Tie as tie
 
+asked : tie.Need-close-year-requires
+asked c κs =
+    let told = c .before .before in
+    closable-done _ _ _ _ (told .before .before .may-close .ensures) (told .enum-told .given .1)
+
 pub close-spec : {M : Type 1} → statement M
 unfolding closing
 close-spec =
@@ -13,7 +18,7 @@ close-spec =
     (tie.spec
     (λ c κs. search needs)
     (λ c. search needs)
-    (λ c κs. search (needs, closable-done))
+    asked
     (λ c. search needs)
     (λ c. search needs)
     (λ c. search needs)

@@ -1,8 +1,8 @@
 -- `ledger::open_cells` meets its contract: turn i writes cell i. Assumes nothing.
 use mathlib.Core.Path.{_≡_, refl, ap, _∙_}
 use mathlib.Core.Bool.{false}
-use mathlib.Core.List.{List, [], _∷_}
-use Prim.Native.Nat.{ℕ, zero-le, _+_, _-_, _≤_}
+use mathlib.Core.List.{[], _∷_}
+use Prim.Native.Nat.{zero-le, _+_, _-_, _≤_}
 use native.Mathlib.Nat.{le-antisymm}
 use native.Mathlib.Omega.{arith}
 use lib.ListN.{length, length-take, length-drop}
@@ -13,12 +13,9 @@ use Rattle.words.proofs.Blocks.{filled-none, filled-next, length-filled}
 use Rattle.fields.specs.declared.Cell.{Cell}
 use Rattle.book.specs.Layout.{bookHead, entryWords, entryAt, planWord, oxidisedWord, burnedWord}
 use Rattle.ledger.specs.Calls.{openWords}
+use Rattle.ledger.proofs.Opened.{three-opened}
 use Rattle.ledger.proofs.open_cells.Statement.{statement}
 use Rattle.ledger.proofs.open_cells.Tie as tie
-
-sized : (l : List ℕ) (i : ℕ) → length (openWords l i) ≡ entryWords
-unfolding openWords
-sized l i = refl
 
 abbrev Inv-loop : tie.InvT-loop
 Inv-loop listing book₀ n i₀ book i = (i ≤ n) × (length book ≡ length book₀) × (book ≡ filled entryWords book₀ bookHead (openWords listing) i)
@@ -27,7 +24,7 @@ abbrev μ-loop : tie.MeasureT-loop
 μ-loop listing book₀ n i₀ book i = n - i
 
 loop-holds : tie.Need-loop-holds Inv-loop μ-loop
-loop-holds c = (zero-le, refl, filled-none entryWords _ bookHead _ (sized _) (omega arith))
+loop-holds c = (zero-le, refl, filled-none entryWords _ bookHead _ (three-opened _) (omega arith))
 
 -- a plan year is at most the horizon
 open-cell-requires : tie.Need-open-cell-requires Inv-loop μ-loop
@@ -47,8 +44,8 @@ loop-again c =
     let l = now (s .args .listing) in
     let b = now (s .args .book) in
     let words = c .before .before .open-cell .ensures ∙ ap (λ (x : Cell). planWord false (x .conversion) ∷ oxidisedWord 0 ∷ burnedWord 0 ∷ []) (cell .cell .ensures) in
-    let e = filled-next entryWords b bookHead (openWords l) (sized l) (omega arith) (t .i) (entryAt (t .i)) (t .inv .2) refl words in
-    (omega arith, ap length e ∙ length-filled entryWords b bookHead (openWords l) (sized l) (omega arith) (t .i + 1) (omega arith), e)
+    let e = filled-next entryWords b bookHead (openWords l) (three-opened l) (omega arith) (t .i) (entryAt (t .i)) (t .inv .2) refl words in
+    (omega arith, ap length e ∙ length-filled entryWords b bookHead (openWords l) (three-opened l) (omega arith) (t .i + 1) (omega arith), e)
 
 returns : tie.Need-returns Inv-loop μ-loop
 returns c = rw (le-antisymm (c .before .loop .inv .0) (c .loop-test .left)) at (c .before .loop .inv .2)
