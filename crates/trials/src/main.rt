@@ -240,6 +240,13 @@ fn withdrawn(l: &[u32], b: &mut [u32]) {
     answered(b"withdraw again", ledger::withdraw(l, b, 0));
 }
 
+// The listing with 6505FF9C appended: a term of -100 t in year 2.
+fn appended(l: &[u32], b: &mut [u32], x: &mut [u32]) {
+    answered(b"open with 6505FF9C appended", ledger::open(l, b));
+    year(l, b, x, 0);
+    year(l, b, x, 0);
+}
+
 // The worked listing: open, and two years, each with its issue.
 fn worked() {
     let l = [
@@ -258,13 +265,18 @@ fn worked() {
     year(&l[..6], &mut b, &mut x, 0);
     converted(&l[..6], &mut b, &mut x);
     withdrawn(&l[..6], &mut b);
-    answered(b"open with 6505FF9C appended", ledger::open(&l, &mut b));
-    year(&l, &mut b, &mut x, 0);
-    year(&l, &mut b, &mut x, 0);
+    appended(&l, &mut b, &mut x);
 }
 
-// Two cells of two strata, of which the second is not drained. The cell of the worked listing comes
-// first and is withdrawn: what lies behind it loses nothing. Then they change places.
+// A year of the second cell, with the first withdrawn.
+fn behind(l: &[u32], b: &mut [u32], x: &mut [u32]) {
+    answered(b"open two cells", ledger::open(l, b));
+    answered(b"withdraw the first", ledger::withdraw(l, b, 0));
+    year(l, b, x, 1);
+}
+
+// Two cells of two strata, of which one is not drained. The drained one stands first and is
+// withdrawn: the other loses nothing. Then they change places.
 fn neighbours() {
     let mut l = [
         0x1002_0202u32,
@@ -280,17 +292,10 @@ fn neighbours() {
     ];
     let mut b = [0u32; 8];
     let mut x = [0u32; 6];
-    answered(b"open two cells", ledger::open(&l, &mut b));
-    answered(b"withdraw the drained one", ledger::withdraw(&l, &mut b, 0));
-    year(&l, &mut b, &mut x, 1);
+    behind(&l, &mut b, &mut x);
     l[6] = 0x4101_07d0;
     l[8] = 0x4001_07d0;
-    answered(b"open them in another order", ledger::open(&l, &mut b));
-    answered(
-        b"withdraw the undrained one",
-        ledger::withdraw(&l, &mut b, 0),
-    );
-    year(&l, &mut b, &mut x, 1);
+    behind(&l, &mut b, &mut x);
 }
 
 fn main() {
