@@ -1,5 +1,5 @@
 -- Document 01, "Lists of calls": what holds after every list of calls on one listing l and its book. The figures of the claims are read off
--- the listing and off what the calls handed out, and not off the book. `EveryList`, at the end, is the theorem; proofs/EveryList.antt proves it.
+-- the listing and off what the calls handed out, and not off the book. `EveryList`, towards the end, is the theorem; proofs/EveryList.antt proves it.
 use mathlib.Core.Path.{_≡_}
 use mathlib.Core.Bool.{true, cond}
 use mathlib.Core.List.{List, [], _∷_}
@@ -35,7 +35,7 @@ step l b (Withdraw i) = noLines (withdrawing l b i)
 step l b Issue = noLines (issuing l b)
 
 -- what a call handed out: the lines of an accepted closing, the new plan year of an accepted replan, the tonnes of an accepted issue;
--- a refused call hands out none
+-- a refused call hands out nothing, and a withdrawal nothing that is counted
 pub data Event : Type 0 where
   Lines : List ℕ → Event
   Planned : ℕ → ℕ → Event
@@ -66,6 +66,7 @@ run l s (c ∷ calls) = run l (next l s c) calls
 
 -- ---- what is counted as handed out before the list
 
+-- closings, tonnes issued, and for each cell a plan year, mm oxidised, mm burned and kg
 pub record Start : Type 0 where
   pub year : ℕ
   pub issued : ℕ
