@@ -10,7 +10,7 @@ use Rattle.words.specs.Refusals.{bookShort, linesShort, bookWord}
 use Rattle.listing.specs.Layout.{head, cells, horizon, cell}
 use Rattle.listing.specs.Check.{checked}
 use Rattle.year.specs.Year.{mostLoss}
-use Rattle.book.specs.Layout.{bookHead, entryWords, bookSize, number, planOf}
+use Rattle.book.specs.Layout.{bookHead, entryWords, yearAt, bookSize, number, planOf}
 
 -- word 0: kind 8, a year of 0 to the horizon
 unfoldable pub isYearWord : ℕ → ℕ → Bool
@@ -34,7 +34,7 @@ isBurnedWord most before w = isKind 12 w && leb (number before + number w) most
 
 -- the word at place k of the head
 unfoldable pub isHeadWord : ℕ → ℕ → ℕ → Bool
-isHeadWord horizon k w = cond (eqb k 0) (isYearWord horizon w) (isIssuedWord w)
+isHeadWord horizon k w = cond (eqb k yearAt) (isYearWord horizon w) (isIssuedWord w)
 
 -- a cell's words take turns
 unfoldable pub isEntryWord : ℕ → ℕ → ℕ → ℕ → ℕ → Bool

@@ -18,6 +18,13 @@ entryWords = 3
 abbrev pub lineWords : ℕ
 lineWords = 3
 
+-- where the current year and the tonnes issued stand
+abbrev pub yearAt : ℕ
+yearAt = 0
+
+abbrev pub issuedAt : ℕ
+issuedAt = 1
+
 -- where cell i begins, and how many words a book of n cells needs: 2 + 3 × cells
 abbrev pub entryAt : ℕ → ℕ
 entryAt i = bookHead + entryWords * i
@@ -31,10 +38,10 @@ number w = bits w 27 0
 
 -- word 0, kind 8: the current year; word 1, kind 9: tonnes issued
 unfoldable pub year : List ℕ → ℕ
-year b = number (getD b 0 0)
+year b = number (getD b yearAt 0)
 
 unfoldable pub issued : List ℕ → ℕ
-issued b = number (getD b 1 0)
+issued b = number (getD b issuedAt 0)
 
 -- kind 10: bit 8 withdrawn, bits 7–0 plan year
 abbrev pub withdrawnOf : ℕ → Bool

@@ -7,7 +7,7 @@ ghost use Rattle.words.specs.Search.{firstWrong};
 ghost use Rattle.words.specs.Answers.{outcome};
 ghost use Rattle.listing.specs.Layout.{head, cells};
 ghost use Rattle.listing.specs.Accepted.{Accepted};
-ghost use Rattle.book.specs.Layout.{bookHead, entryWords, lineWords, entryAt, bookSize, year, issued, entryOf, entry, planWord};
+ghost use Rattle.book.specs.Layout.{bookHead, entryWords, lineWords, yearAt, issuedAt, entryAt, bookSize, year, issued, entryOf, entry, yearWord, issuedWord, planWord};
 ghost use Rattle.book.specs.Check.{isYearWord, isPlanWord, isBurnedWord, bookRight, roomChecked, fitted, bookChecked, admitted};
 ghost use Rattle.book.specs.Sound.{Fitted, Room};
 use fields::Head;
@@ -23,6 +23,11 @@ use year::Entry;
 pub const BOOK_HEAD: usize = 2;
 
 pub const ENTRY_WORDS: usize = 3;
+
+// Where the current year and the tonnes issued stand.
+const YEAR_AT: usize = 0;
+
+const ISSUED_AT: usize = 1;
 
 fn is_year_word(w: u32, horizon: u32) -> bool
     ensures { λ r. ⌜ r ≡ isYearWord horizon w ⌝ }
@@ -48,7 +53,7 @@ fn word_right(listing: &[u32], h: Head, book: &[u32], k: usize) -> bool
     requires { ⌜ Fitted (now listing) (now book) × (h ≡ head (now listing)) × (k < bookSize (cells (now listing))) ⌝ }
     ensures { λ r. ⌜ r ≡ bookRight (now (listing .entry)) (now (book .entry)) k ⌝ }
 {
-    if k == 0 {
+    if k == YEAR_AT {
         return is_year_word(book[k], h.horizon);
     }
     if k < BOOK_HEAD {
@@ -137,7 +142,7 @@ pub fn year(book: &[u32]) -> u32
     requires { ⌜ bookHead ≤ length (now book) ⌝ }
     ensures { λ r. ⌜ r ≡ year (now (book .entry)) ⌝ }
 {
-    bits(book[0], 27, 0)
+    bits(book[YEAR_AT], 27, 0)
 }
 
 // The tonnes issued.
@@ -145,7 +150,7 @@ pub fn issued(book: &[u32]) -> u32
     requires { ⌜ bookHead ≤ length (now book) ⌝ }
     ensures { λ r. ⌜ r ≡ issued (now (book .entry)) ⌝ }
 {
-    bits(book[1], 27, 0)
+    bits(book[ISSUED_AT], 27, 0)
 }
 
 // What a cell's own words say.
@@ -169,6 +174,22 @@ pub fn entry(book: &[u32], i: usize) -> Entry
     let a = BOOK_HEAD + ENTRY_WORDS * i;
     let e = a + ENTRY_WORDS;
     entry_of(&book[a..e])
+}
+
+// Writes the current year.
+pub fn put_year(book: &mut [u32], year: u32)
+    requires { ⌜ (bookHead ≤ length (now book)) × (year < 2 ^ 28) ⌝ }
+    ensures { λ _. ⌜ now (book .exit) ≡ set (now (book .entry)) yearAt (yearWord year) ⌝ }
+{
+    book[YEAR_AT] = words::word(8, year);
+}
+
+// Writes the tonnes issued.
+pub fn put_issued(book: &mut [u32], tonnes: u32)
+    requires { ⌜ (bookHead ≤ length (now book)) × (tonnes < 2 ^ 28) ⌝ }
+    ensures { λ _. ⌜ now (book .exit) ≡ set (now (book .entry)) issuedAt (issuedWord tonnes) ⌝ }
+{
+    book[ISSUED_AT] = words::word(9, tonnes);
 }
 
 // Writes the mark and the plan year of cell `i`.

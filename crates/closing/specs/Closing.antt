@@ -11,7 +11,7 @@ use Rattle.words.specs.Refusals.{horizonReached, lineTooLarge}
 use Rattle.listing.specs.Layout.{head, cells, horizon, row, cell}
 use Rattle.year.specs.Year.{yearLoss}
 use Rattle.year.specs.declared.Loss.{Loss}
-use Rattle.book.specs.Layout.{bookHead, entryWords, lineWords, year, entryOf, wordsOf, yearWord, oxidisedWord, burnedWord, linesOf}
+use Rattle.book.specs.Layout.{bookHead, entryWords, lineWords, yearAt, year, entryOf, wordsOf, yearWord, oxidisedWord, burnedWord, linesOf}
 use Rattle.book.specs.Check.{admitted}
 
 -- what cell i loses in year t, by its own words w in the book, its own words in the listing, and the row of its own stratum and age
@@ -35,7 +35,7 @@ closedLines l b i = linesOf (loss l b i)
 
 -- the book and the lines buffer x then: the words beyond those needed are untouched
 unfoldable pub bookAfter : List ℕ → List ℕ → List ℕ
-bookAfter l b = set (filled entryWords b bookHead (closedWords l b) (cells l)) 0 (yearWord (year b + 1))
+bookAfter l b = set (filled entryWords b bookHead (closedWords l b) (cells l)) yearAt (yearWord (year b + 1))
 
 unfoldable pub linesAfter : List ℕ → List ℕ → List ℕ → List ℕ
 linesAfter l b x = filled lineWords x 0 (closedLines l b) (cells l)
@@ -44,10 +44,11 @@ linesAfter l b x = filled lineWords x 0 (closedLines l b) (cells l)
 abbrev pub mostNumber : ℕ
 mostNumber = 2 ^ 28 - 1
 
--- number 9, close at the horizon; and number 14, a kg line above that
+-- cell i's kg line is not above that
 unfoldable pub fineLine : List ℕ → List ℕ → ℕ → Bool
 fineLine l b i = leb (loss l b i .kg) mostNumber
 
+-- number 9, close at the horizon, at place 0; and number 14, a kg line that is too large, at its cell
 unfoldable pub yearChecked : List ℕ → List ℕ → Answer
 yearChecked l b =
     need (ltb (year b) (horizon l)) horizonReached 0

@@ -142,5 +142,5 @@ pub fn close_year(listing: &[u32], book: &mut [u32], lines: &mut [u32])
     let h = listing::head(listing);
     let year = book::year(&book[..]) + 1;
     close_cells(listing, h, book, lines, year);
-    book[0] = word(8, year);
+    book::put_year(book, year);
 }

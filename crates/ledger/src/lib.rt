@@ -230,7 +230,7 @@ pub fn issue(listing: &[u32], book: &mut [u32]) -> Issued
         Outcome::Done => {
             let tonnes = balance::tonnes_due(listing, &book[..]);
             let issued = book::issued(&book[..]);
-            book[1] = word(9, issued + tonnes);
+            book::put_issued(book, issued + tonnes);
             Issued::Tonnes(tonnes)
         }
         Outcome::Refused(why) => Issued::Refused(why),

@@ -14,9 +14,9 @@ close-cells-requires c κs =
 returns : tie.Need-returns
 unfolding bookAfter
 returns c =
-    let closed = c .before .before .before .before .before .close-cells .ensures in
-    let year = c .before .before .before .before .before .before .before .before .year .ensures in
-    (rw (c .word .ensures, closed .0, year), closed .1)
+    let cells = c .before .before .before .before .before .before .before .before in
+    let closed = cells .close-cells .ensures in
+    (rw (c .before .before .put-year .ensures, closed .0, cells .before .before .before .year .ensures), closed .1)
 
 pub close-year-spec : {M : Type 1} → statement M
 close-year-spec =
@@ -27,7 +27,6 @@ close-year-spec =
     (λ c. search needs)
     close-cells-requires
     (λ c κs. search needs)
-    (λ c. search needs)
     (λ c. search needs)
     (λ c. search needs)
     returns)

@@ -1,11 +1,11 @@
 -- `ledger::issue` meets its contract: what is due is answered, and added to what was issued. Assumes nothing.
 use mathlib.Core.Path.{_≡_, ap, ap₂, _∙_}
-use Prim.Native.Nat.{_+_, _<_, _^_}
+use Prim.Native.Nat.{ℕ, _+_, _<_, _^_}
 use native.Mathlib.Omega.{arith}
 use lib.ListN.{set}
 use denote.Ref.{now}
 use borrow.Author.Needs.{needs}
-use Rattle.book.specs.Layout.{issued, issuedWord}
+use Rattle.book.specs.Layout.{issuedAt, issued, issuedWord}
 use Rattle.book.specs.Sound.{Sound}
 use Rattle.book.proofs.Sound.{sound-done}
 use Rattle.balance.specs.Balance.{tonnesDue}
@@ -38,11 +38,12 @@ small c =
 done : tie.Need-returns
 unfolding issuing issueAnswer
 done c =
-    let told = c .before .before .before .before .before in
+    let read = c .before .before .before .before in
+    let told = read .before .before .before .before in
     let s = start told in
     settle-value _ _ (told .before .before .admit .ensures) (told .enum-told .given .1) _ _ _ _ _
-    (c .before .before .before .tonnes-due .ensures)
-    (ap (set (now (s .args .book)) 1) (c .word .ensures ∙ ap issuedWord (sum (c .before))))
+    (read .before .before .tonnes-due .ensures)
+    (c .before .before .put-issued .ensures ∙ ap (λ (n : ℕ). set (now (s .args .book)) issuedAt (issuedWord n)) (sum read))
 
 refused : tie.Need-returns-2
 unfolding issuing issueAnswer
@@ -56,9 +57,8 @@ issue-spec =
     (λ c. search needs)
     (λ c κs. sound (c .before))
     (λ c κs. omega (arith, sound (c .before .before .before) .fitted .room))
-    (λ c. omega (arith, small c))
-    (λ c κs. (omega arith, omega (arith, small c)))
-    (λ c. omega (arith, sound (c .before .before .before .before .before) .fitted .room))
+    (λ c. omega (arith, small (c .before)))
+    (λ c κs. (omega (arith, sound (c .before .before .before .before .before) .fitted .room), omega (arith, small (c .before))))
     (λ c. search needs)
     (λ c. search needs)
     done
