@@ -29,7 +29,7 @@ loop-again : tie.Need-loop-again Inv-loop μ-loop
 loop-again c =
     let t = c .before .before .before .before .before .loop in
     let s = c .before .before .before .before .before .before .before .before .before in
-    let fine = line-fine (s .pre) (t .i) _ (c .before .before .before .entry .ensures) _ (c .before .before .cell-loss .ensures) (c .if1 .left) in
+    let fine = line-fine (s .pre) (t .i) _ (c .before .before .before .entry .ensures) _ (c .before .before .cell-loss .ensures) (omega (arith, c .if1 .left)) in
     (t .inv .0, search steps, passed-more (t .inv .2) (omega arith) fine)
 
 returns : tie.Need-returns Inv-loop μ-loop
@@ -39,7 +39,7 @@ returns-2 : tie.Need-returns-2 Inv-loop μ-loop
 returns-2 c =
     let t = c .before .before .before .before .before .loop in
     let s = c .before .before .before .before .before .before .before .before .before in
-    let large = line-large (s .pre) (t .i) _ (c .before .before .before .entry .ensures) _ (c .before .before .cell-loss .ensures) (c .if1 .taken) in
+    let large = line-large (s .pre) (t .i) _ (c .before .before .before .entry .ensures) _ (c .before .before .cell-loss .ensures) (omega (arith, c .if1 .taken)) in
     passed-stop (t .inv .2) (omega arith) large
 
 pub first-large-spec : {M : Type 1} → statement M
