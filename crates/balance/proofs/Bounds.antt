@@ -20,6 +20,7 @@ use Rattle.year.specs.declared.Entry.{Entry}
 use Rattle.year.proofs.Laws.{emission-most}
 use Rattle.book.specs.Layout.{year, issued, entry}
 use Rattle.book.specs.Sound.{Sound}
+use Rattle.book.proofs.Sound.{entry-fit}
 use Rattle.balance.specs.Balance.{overCells, peatTonnes, mostPeat, toDate, withheld, balanceOf, due, kgTo, balanceIn, tonnesDue}
 
 -- ---- peat: each cell has its most
@@ -29,10 +30,8 @@ cells-most f m zero h = omega arith
 cells-most f m (suc n) h = omega (arith, cells-most f m n (λ i p. h i (omega arith)), h n (omega arith))
 
 module _ (l b : List ℕ) (sound : Sound l b) where
-  pub cell-fits : (i : ℕ) → i < cells l → Fit (head l) (cell l i) (entry b i .oxidised) (entry b i .burned)
-  cell-fits i h =
-      let a = sound .fitted .accepted in
-      record { head-right = a .head-right; cell-right = a .cell-right i h; lost = sound .entry-right i h .lost }
+  cell-fits : (i : ℕ) → i < cells l → Fit (head l) (cell l i) (entry b i .oxidised) (entry b i .burned)
+  cell-fits i h = entry-fit l i (entry b i) (sound .fitted .accepted) h (sound .entry-right i h)
 
   pub kg-most : (n : ℕ) → n ≤ cells l → overCells (kgTo l b) n ≤ 816000000 * n
   kg-most n h = cells-most (kgTo l b) 816000000 n (λ i p. emission-most (cell-fits i (omega arith)))
@@ -84,9 +83,10 @@ balance-fits l b s =
     (omega (arith, balance-size l (year b) peat a, peat-most l b s), omega (arith, balance-most l (year b) peat a, peat-most l b s))
 
 -- ---- an issue
-pub issued-max : (l b : List ℕ) → issued b + tonnesDue l b ≡ max (issued b) (atLeast0 (balanceIn l b))
+-- it brings the tonnes issued up to the balance z
+pub issue-max : (z : ℤ) (tonnes : ℕ) → tonnes + due z tonnes ≡ max (atLeast0 z) tonnes
 unfolding due
-issued-max l b = omega (arith, atLeast0-less (balanceIn l b) (issued b))
+issue-max z tonnes = omega (arith, atLeast0-less z tonnes)
 
 pub issued-fits : (l b : List ℕ) → Sound l b → issued b + tonnesDue l b < 2 ^ 28
-issued-fits l b s = omega (arith, s .issued, issued-max l b, balance-fits l b s .1)
+issued-fits l b s = omega (arith, s .issued, issue-max (balanceIn l b) (issued b), balance-fits l b s .1)

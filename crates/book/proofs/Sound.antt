@@ -16,8 +16,11 @@ use Rattle.words.proofs.Fields.{field-below}
 use Rattle.fields.specs.declared.Head.{Head}
 use Rattle.fields.specs.declared.Cell.{Cell}
 use Rattle.listing.specs.Layout.{head, cells, horizon, cell}
+use Rattle.listing.specs.Accepted.{Accepted}
 use Rattle.listing.proofs.Accepted.{accepted}
 use Rattle.year.specs.Year.{mostLoss}
+use Rattle.year.specs.Fit.{Fit}
+use Rattle.year.specs.declared.Entry.{Entry}
 use Rattle.year.proofs.Laws.{most-entered}
 use Rattle.book.specs.Layout.{number, planOf, year, issued, entryOf, wordsOf}
 use Rattle.book.specs.Check.{isYearWord, isPlanWord, isBurnedWord, roomChecked, fitted, admitted}
@@ -77,3 +80,7 @@ sound-room l b s i lt =
     let room = s .fitted .room in
     let few = s .fitted .accepted .head-right .cells .1 in
     record { in-book = omega arith; small = omega arith }
+
+-- the figures of cell i fit, with what its entry e has lost
+pub entry-fit : (l : List ℕ) (i : ℕ) (e : Entry) → Accepted l → i < cells l → EntryRight (head l) (cell l i) e → Fit (head l) (cell l i) (e .oxidised) (e .burned)
+entry-fit l i e a lt right = record { head-right = a .head-right; cell-right = a .cell-right i lt; lost = right .lost }

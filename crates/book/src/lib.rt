@@ -3,6 +3,7 @@
 ghost use mathlib.Core.Path.{_≡_};
 ghost use Prim.Native.Nat.{_+_, _*_, _^_, _<_, _≤_};
 ghost use lib.ListN.{length, set};
+ghost use Rattle.words.specs.Bits.{wordOf};
 ghost use Rattle.words.specs.Search.{firstWrong};
 ghost use Rattle.words.specs.Answers.{outcome};
 ghost use Rattle.listing.specs.Layout.{head, cells};
@@ -176,12 +177,20 @@ pub fn entry(book: &[u32], i: usize) -> Entry
     entry_of(&book[a..e])
 }
 
+// Writes the word of a kind at `at`.
+fn put_number(book: &mut [u32], at: usize, kind: u32, number: u32)
+    requires { ⌜ (at < length (now book)) × (kind < 16) × (number < 2 ^ 28) ⌝ }
+    ensures { λ _. ⌜ now (book .exit) ≡ set (now (book .entry)) at (wordOf kind number) ⌝ }
+{
+    book[at] = words::word(kind, number);
+}
+
 // Writes the current year.
 pub fn put_year(book: &mut [u32], year: u32)
     requires { ⌜ (bookHead ≤ length (now book)) × (year < 2 ^ 28) ⌝ }
     ensures { λ _. ⌜ now (book .exit) ≡ set (now (book .entry)) yearAt (yearWord year) ⌝ }
 {
-    book[YEAR_AT] = words::word(8, year);
+    put_number(book, YEAR_AT, 8, year);
 }
 
 // Writes the tonnes issued.
@@ -189,7 +198,7 @@ pub fn put_issued(book: &mut [u32], tonnes: u32)
     requires { ⌜ (bookHead ≤ length (now book)) × (tonnes < 2 ^ 28) ⌝ }
     ensures { λ _. ⌜ now (book .exit) ≡ set (now (book .entry)) issuedAt (issuedWord tonnes) ⌝ }
 {
-    book[ISSUED_AT] = words::word(9, tonnes);
+    put_number(book, ISSUED_AT, 9, tonnes);
 }
 
 // Writes the mark and the plan year of cell `i`.

@@ -24,9 +24,8 @@ use Rattle.year.proofs.Laws.{or-false, awake, most-entered, year-most}
 use Rattle.book.specs.Layout.{entryWords, lineWords, entryOf, entry, oxidisedWord, burnedWord}
 use Rattle.book.specs.Check.{admitted, bookChecked}
 use Rattle.book.specs.Sound.{Room}
-use Rattle.book.proofs.Sound.{sound, sound-room}
-use Rattle.closing.specs.Closing.{loss, wordsAfter, mostNumber, fineLine, yearChecked, closeAnswer}
-use Rattle.closing.specs.Closing as closing
+use Rattle.book.proofs.Sound.{sound, sound-room, entry-fit}
+use Rattle.closing.specs.Closing.{cellLoss, loss, wordsAfter, mostNumber, fineLine, yearChecked, closeAnswer}
 use Rattle.closing.specs.Closable.{Losing, Timely, Closable}
 
 -- a plan year that is not "0 or above t" is from 1 to t
@@ -48,9 +47,6 @@ last-two (x ∷ y ∷ z ∷ u ∷ w) o b h = absurd (omega arith)
 
 -- ---- a cell that is worked out
 module _ {l : List ℕ} {h : Head} {i : ℕ} {e : Entry} {t : ℕ} (g : Losing l h i e t) where
-  pub losing-fit : Fit (head l) (cell l i) (e .oxidised) (e .burned)
-  losing-fit = record { head-right = g .accepted .head-right; cell-right = g .accepted .cell-right i (g .there); lost = g .entry-right .lost }
-
   -- if it does not rest, its table has a row for its age
   pub losing-age : rests (head l) (cell l i) e t ≡ false → (e .plan ≤ t) × (cell l i .stratum < strata l) × (1 ≤ age (e .plan) t) × (age (e .plan) t ≤ horizon l)
   losing-age q =
@@ -79,7 +75,7 @@ module _ {l : List ℕ} {h : Head} {i : ℕ} {e : Entry} {t : ℕ} (g : Losing l
       awake-age = rw c-is (losing-age (sym rests-is ∙ q))
 
       pub awake-fit : (r : Row) → r ≡ row l (c .stratum) (age (e .plan) t) → Fit h c (e .oxidised) (e .burned) × RowRight r
-      awake-fit r r-is = rw (r-is, g .head-is, c-is) (losing-fit, g .accepted .row-right (cell l i .stratum) (age (e .plan) t))
+      awake-fit r r-is = rw (r-is, g .head-is, c-is) (entry-fit l i e (g .accepted) (g .there) (g .entry-right), g .accepted .row-right (cell l i .stratum) (age (e .plan) t))
 
       pub awake-loss : (r : Row) → r ≡ row l (c .stratum) (age (e .plan) t) → (s : Loss) → s ≡ lossOf h c r e → s ≡ yearLoss (head l) (row l) (cell l i) e t
       unfolding yearLoss
@@ -87,16 +83,16 @@ module _ {l : List ℕ} {h : Head} {i : ℕ} {e : Entry} {t : ℕ} (g : Losing l
 
 -- a cell's own words w, which the step was lent: e is the entry that it read, s the loss that it was told
 module _ {l : List ℕ} {h : Head} {i t : ℕ} (w : List ℕ) (g : Losing l h i (entryOf w) t) (e : Entry) (e-is : e ≡ entryOf w) (s : Loss) (s-is : s ≡ yearLoss (head l) (row l) (cell l i) e t) where
-  pub step-loss : s ≡ closing.lossOf l t i w
+  pub step-loss : s ≡ cellLoss l t i w
   step-loss = rw e-is at s-is
 
   pub step-lost : (e .oxidised + s .oxidised) + (e .burned + s .burned) ≤ 20000
   step-lost = rw (step-loss, e-is) (lost-then g)
 
   -- two words stored over the last two of three
-  pub step-words : length w ≡ entryWords → (o b : ℕ) → o ≡ oxidisedWord (e .oxidised + s .oxidised) → b ≡ burnedWord (e .burned + s .burned) → set (set w 1 o) 2 b ≡ wordsAfter w (closing.lossOf l t i w)
+  pub step-words : length w ≡ entryWords → (o b : ℕ) → o ≡ oxidisedWord (e .oxidised + s .oxidised) → b ≡ burnedWord (e .burned + s .burned) → set (set w 1 o) 2 b ≡ wordsAfter w (cellLoss l t i w)
   unfolding wordsAfter
-  step-words three o b o-is b-is = rw (o-is, b-is, step-loss, e-is) (last-two w (oxidisedWord (entryOf w .oxidised + closing.lossOf l t i w .oxidised)) (burnedWord (entryOf w .burned + closing.lossOf l t i w .burned)) three)
+  step-words three o b o-is b-is = rw (o-is, b-is, step-loss, e-is) (last-two w (oxidisedWord (entryOf w .oxidised + cellLoss l t i w .oxidised)) (burnedWord (entryOf w .burned + cellLoss l t i w .burned)) three)
 
 -- every cell of a right book can be
 pub timely-losing : {l : List ℕ} {h : Head} {b : List ℕ} {t : ℕ} → Timely l h b t → (i : ℕ) → i < cells l → Losing l h i (entry b i) t

@@ -14,7 +14,7 @@ use Rattle.year.specs.declared.Loss.{Loss}
 use Rattle.book.specs.Layout.{bookHead, entryWords, lineWords, entryAt, year, entryOf, wordsOf, linesOf}
 use Rattle.book.specs.Sound.{Sound}
 use Rattle.book.proofs.Entries.{words-sized}
-use Rattle.closing.specs.Closing.{lossOf, loss, wordsAfter, closedWords, closedLines, linesAfter, mostNumber}
+use Rattle.closing.specs.Closing.{cellLoss, loss, wordsAfter, closedWords, closedLines, linesAfter, mostNumber}
 use Rattle.closing.specs.Closable.{Losing, Timely, Closable}
 use Rattle.closing.proofs.Closable.{lost-then, timely-losing, timely-room}
 
@@ -62,11 +62,11 @@ module _ {l b : List ℕ} (d : List ℕ) (k : Closable l b (length d)) where
     pub turn-losing : (length lent ≡ entryWords) × Losing l h i (entryOf lent) t
     turn-losing = rw lent-is (words-sized b i (timely-room g i lt .in-book), timely-losing g i lt)
 
-    turn-loss : lossOf l t i lent ≡ loss l b i
+    turn-loss : cellLoss l t i lent ≡ loss l b i
     turn-loss = rw (lent-is, g .next)
 
     -- s is the loss that was told: its lines fit their words
-    module _ {s : Loss} (s-is : s ≡ lossOf l t i lent) where
+    module _ {s : Loss} (s-is : s ≡ cellLoss l t i lent) where
       told : s ≡ loss l b i
       told = s-is ∙ turn-loss
 
@@ -76,7 +76,7 @@ module _ {l b : List ℕ} (d : List ℕ) (k : Closable l b (length d)) where
           rw told (omega arith, omega arith, k .fits i lt)
 
       -- ws and ls are the words and the lines that came back
-      module _ {ws ls : List ℕ} (ws-is : ws ≡ wordsAfter lent (lossOf l t i lent)) (ls-is : ls ≡ linesOf s) where
+      module _ {ws ls : List ℕ} (ws-is : ws ≡ wordsAfter lent (cellLoss l t i lent)) (ls-is : ls ≡ linesOf s) where
         words-closed : ws ≡ closedWords l b i
         unfolding closedWords
         words-closed = rw (turn-loss, lent-is) at ws-is

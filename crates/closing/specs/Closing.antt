@@ -15,12 +15,12 @@ use Rattle.book.specs.Layout.{bookHead, entryWords, lineWords, yearAt, year, en
 use Rattle.book.specs.Check.{admitted}
 
 -- what cell i loses in year t, by its own words w in the book, its own words in the listing, and the row of its own stratum and age
-abbrev pub lossOf : List ℕ → ℕ → ℕ → List ℕ → Loss
-lossOf l t i w = yearLoss (head l) (row l) (cell l i) (entryOf w) t
+abbrev pub cellLoss : List ℕ → ℕ → ℕ → List ℕ → Loss
+cellLoss l t i w = yearLoss (head l) (row l) (cell l i) (entryOf w) t
 
 -- the same in the year current + 1
 abbrev pub loss : List ℕ → List ℕ → ℕ → Loss
-loss l b i = lossOf l (year b + 1) i (wordsOf b i)
+loss l b i = cellLoss l (year b + 1) i (wordsOf b i)
 
 -- the cell's three words after a loss s: mark and plan year as they were, O and B with the year's mm added
 unfoldable pub wordsAfter : List ℕ → Loss → List ℕ

@@ -9,7 +9,7 @@ ghost use Rattle.listing.specs.Layout.{head, cells, row, cell};
 ghost use Rattle.year.specs.Year.{yearLoss};
 ghost use Rattle.book.specs.Layout.{bookHead, entryWords, lineWords, entryOf, linesOf};
 ghost use Rattle.book.specs.Sound.{Sound};
-ghost use Rattle.closing.specs.Closing.{lossOf, wordsAfter, closedWords, bookAfter, linesAfter, mostNumber, fineLine, yearChecked, closeAnswer};
+ghost use Rattle.closing.specs.Closing.{cellLoss, wordsAfter, closedWords, bookAfter, linesAfter, mostNumber, fineLine, yearChecked, closeAnswer};
 ghost use Rattle.closing.specs.Closable.{Losing, Timely, Closable};
 use book::BOOK_HEAD;
 use book::ENTRY_WORDS;
@@ -94,8 +94,8 @@ pub fn may_close(listing: &[u32], book: &[u32], room: usize) -> Outcome
 // Closes cell `i`, whose own words are lent: adds the year's mm to its mm to date.
 fn close_cell(cell: &mut [u32], listing: &[u32], h: Head, i: usize, year: u32) -> Loss
     requires { ⌜ (length (now cell) ≡ entryWords) × Losing (now listing) h i (entryOf (now cell)) year ⌝ }
-    ensures { λ s. ⌜ s ≡ lossOf (now (listing .entry)) year i (now (cell .entry)) ⌝ }
-    ensures { λ _. ⌜ now (cell .exit) ≡ wordsAfter (now (cell .entry)) (lossOf (now (listing .entry)) year i (now (cell .entry))) ⌝ }
+    ensures { λ s. ⌜ s ≡ cellLoss (now (listing .entry)) year i (now (cell .entry)) ⌝ }
+    ensures { λ _. ⌜ now (cell .exit) ≡ wordsAfter (now (cell .entry)) (cellLoss (now (listing .entry)) year i (now (cell .entry))) ⌝ }
 {
     let e = book::entry_of(&cell[..]);
     let s = cell_loss(listing, h, i, e, year);

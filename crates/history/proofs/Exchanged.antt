@@ -1,4 +1,4 @@
--- Two blocks of a list that change places: each word, a list that is filled anew, a word that is set, a sum. Assumes nothing.
+-- Two blocks of a list that change places: each word, a list that is filled anew, a word that is set. Assumes nothing.
 use mathlib.Core.Path.{_≡_, refl, sym, ap, _∙_}
 use mathlib.Core.Bool.{Bool, true, false}
 use mathlib.Core.List.{List}

@@ -2,19 +2,19 @@
 use mathlib.Core.Path.{_≡_, refl, ap, _∙_}
 use mathlib.Core.Bool.{Bool, true, false, cond}
 use mathlib.Core.List.{List, _∷_}
-use Prim.Native.Nat.{ℕ, suc, _+_, _≤_, _<_, max}
+use Prim.Native.Nat.{ℕ, suc, _+_, _≤_, _<_}
 use native.Mathlib.Omega.{arith}
 use native.Mathlib.Numerals.{add-one}
 use lib.Dec.{eqb}
-use lib.IntN.{ℤ}
 use Rattle.words.specs.Bits.{atLeast0}
-use Rattle.words.proofs.Signed.{by-test, atLeast0-less}
+use Rattle.words.proofs.Signed.{by-test}
 use Rattle.listing.specs.Layout.{head, cells, row, cell}
 use Rattle.year.specs.declared.Entry.{Entry}
 use Rattle.year.specs.Year.{emission}
 use Rattle.book.specs.Layout.{year, issued, entry}
 use Rattle.book.specs.Check.{admittedOnly}
-use Rattle.balance.specs.Balance.{due, kgTo, balanceIn}
+use Rattle.balance.specs.Balance.{kgTo, balanceIn}
+use Rattle.balance.proofs.Bounds.{issue-max}
 use Rattle.closing.specs.Closing.{loss}
 use Rattle.ledger.specs.Calls.{closing, replanning, withdrawing, issuing}
 use Rattle.history.specs.History.{Call, Close, Replan, Withdraw, Issue, step, Event, Lines, Planned, Paid, Nothing, event, History, Start, yearIn, planIn, sumOf, oxidisedIn, burnedIn, kgIn, issuedIn, balanceAt, highest, EachClosing, dOf, StayedDry}
@@ -43,11 +43,6 @@ Inv l s b h =
 plan-of : (c : Bool) (x y : Entry) (u w : ℕ) → x .plan ≡ u → y .plan ≡ w → cond c x y .plan ≡ cond c u w
 plan-of true x y u w e f = e
 plan-of false x y u w e f = f
-
--- an issue brings the tonnes issued up to the balance
-issue-max : (z : ℤ) (tonnes : ℕ) → tonnes + due z tonnes ≡ max (atLeast0 z) tonnes
-unfolding due
-issue-max z tonnes = omega (arith, atLeast0-less z tonnes)
 
 module _ (l : List ℕ) (s : Start) (b : List ℕ) (h : History) (v : Inv l s b h) where
   -- ---- a call that hands out nothing and leaves the book

@@ -12,7 +12,7 @@ use Rattle.words.specs.declared.Outcome.the-variants.{Done}
 use Rattle.words.proofs.Answers.{need-says, after-says, and-right}
 use Rattle.listing.specs.Layout.{horizon}
 use Rattle.book.specs.Layout.{year, entry}
-use Rattle.book.proofs.Sound.{sound, sound-room}
+use Rattle.book.proofs.Sound.{sound, sound-room, entry-fit}
 use Rattle.ledger.specs.Calls.{cellChecked, reached, markChecked, standing, ahead, planChecked, replanAnswer}
 use Rattle.ledger.specs.Reached.{Reached}
 
@@ -31,7 +31,7 @@ module _ (l b : List ℕ) (i : ℕ) where
         there = lt;
         room = sound-room l b s i lt;
         entry-right = right;
-        fit = record { head-right = s .fitted .accepted .head-right; cell-right = s .fitted .accepted .cell-right i lt; lost = right .lost };
+        fit = entry-fit l i (entry b i) (s .fitted .accepted) lt right;
       }
 
   -- and where it stands, it is not withdrawn

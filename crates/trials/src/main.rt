@@ -235,6 +235,7 @@ fn converted(l: &[u32], b: &mut [u32], x: &mut [u32]) {
     remains(b"no such cell", ledger::statement(l, &b[..], 1));
 }
 
+// A withdrawal, and what is refused after it.
 fn withdrawn(l: &[u32], b: &mut [u32]) {
     answered(b"withdraw", ledger::withdraw(l, b, 0));
     answered(b"withdraw again", ledger::withdraw(l, b, 0));
