@@ -36,19 +36,19 @@ converted : tie.Need-returns
 unfolding planChecked
 converted c = need-bad _ _ _ _ _ (said-no _ _ (test12 (c .before .before)) (c .before .if1 .taken)) (c .refuse .ensures)
 
-behind : tie.Need-returns-2
-unfolding planChecked
-behind c =
-    let head = c .before .before in
-    need-next _ _ _ _ _ (said-yes _ _ (test12 (head .before .before)) (head .before .if1 .left))
-    (need-bad _ _ _ _ _ (said-no _ _ (test13 head) (c .before .if2 .taken)) (c .refuse2 .ensures))
-
 passed : tie.Need-returns-3
 unfolding planChecked
 passed c =
     let head = c .before in
     need-next _ _ _ _ _ (said-yes _ _ (test12 (head .before .before)) (head .before .if1 .left))
     (need-next _ _ _ _ _ (said-yes _ _ (test13 head) (c .if2 .left)) refl)
+
+behind : tie.Need-returns-2
+unfolding planChecked
+behind c =
+    let head = c .before .before in
+    need-next _ _ _ _ _ (said-yes _ _ (test12 (head .before .before)) (head .before .if1 .left))
+    (need-bad _ _ _ _ _ (said-no _ _ (test13 head) (c .before .if2 .taken)) (c .refuse2 .ensures))
 
 pub check-plan-spec : {M : Type 1} → statement M
 check-plan-spec =
