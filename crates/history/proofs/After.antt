@@ -16,7 +16,8 @@ use Rattle.book.proofs.Sound.{sound}
 use Rattle.book.proofs.Entries.{replaced}
 use Rattle.balance.specs.Balance.{tonnesDue}
 use Rattle.closing.specs.Closing.{loss, bookAfter, linesAfter, closeAnswer}
-use Rattle.ledger.specs.Calls.{written, openBook, opening, closing, standing, replanAnswer, replanning, withdrawing, issueAnswer, issuing}
+use Rattle.opening.specs.Opening.{openBook}
+use Rattle.ledger.specs.Calls.{written, opening, closing, standing, replanAnswer, replanning, withdrawing, issueAnswer, issuing}
 use Rattle.history.specs.History.{oxidisedLine, burnedLine, kgLine}
 use Rattle.history.proofs.Says.{Says, grown, planned, marked}
 use Rattle.closing.proofs.Closable.{closable}

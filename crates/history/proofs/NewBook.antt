@@ -17,8 +17,8 @@ use Rattle.book.proofs.Words.{plan-of, mark-of, year-right, issued-right, plan-
 use Rattle.book.proofs.Right.{WordsRight}
 use Rattle.book.proofs.Sound.{fitted-says}
 use Rattle.book.proofs.Keeps.{fitted-length}
-use Rattle.ledger.proofs.Opened.{three-opened}
-use Rattle.ledger.specs.Calls.{openHead, openWords, openBook}
+use Rattle.opening.specs.Opening.{openHead, openWords, openBook}
+use Rattle.opening.proofs.Opened.{three-opened}
 use Rattle.history.proofs.Says.{Says}
 use Rattle.history.proofs.Stores.{says-as, says-filled, most-small}
 

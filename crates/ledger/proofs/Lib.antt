@@ -1,4 +1,3 @@
 -- Laws of the six calls.
 pub mod Settle
 pub mod Reached
-pub mod Opened

@@ -1,17 +1,17 @@
 -- Document 01, "Book and calls": what each call on a listing l and a book b answers, and what it leaves in the slices lent to it.
 use Prim.Native.Nat.{ℕ, _+_}
 use mathlib.Core.Bool.{Bool, true, false, cond, not, _&&_, _||_}
-use mathlib.Core.List.{List, [], _∷_, _++_}
+use mathlib.Core.List.{List}
 use lib.Dec.{leb, ltb, eqb}
-use lib.ListN.{length, set, drop}
+use lib.ListN.{length, set}
 use Rattle.words.specs.Answers.{Answer, accepted, refused, need, after}
-use Rattle.words.specs.Blocks.{blocks}
 use Rattle.words.specs.Refusals.{noSuchCell, cellWithdrawn, cellConverted, yearNotAhead}
 use Rattle.listing.specs.Layout.{head, cells, horizon, cell}
 use Rattle.year.specs.Year.{unconverted, remaining, kgOf}
-use Rattle.book.specs.Layout.{bookSize, issuedAt, entryAt, year, issued, entry, yearWord, issuedWord, planWord, oxidisedWord, burnedWord}
+use Rattle.book.specs.Layout.{issuedAt, entryAt, year, issued, entry, issuedWord, planWord}
 use Rattle.book.specs.Check.{fitted, admittedOnly}
 use Rattle.balance.specs.Balance.{tonnesDue}
+use Rattle.opening.specs.Opening.{openBook}
 use Rattle.closing.specs.Closing.{bookAfter, linesAfter, closeAnswer}
 use Rattle.ledger.specs.declared.Issued.{Issued}
 use Rattle.ledger.specs.declared.Issued.the-variants.{Tonnes}
@@ -41,18 +41,6 @@ abbrev pub settle : Answer → List ℕ → List ℕ → Left
 settle a old new = leaves a (written a old new)
 
 -- ---- open: year 0, 0 issued, plan years of the listing, nothing withdrawn, zeros
-
--- year 0, and 0 issued
-abbrev pub openHead : List ℕ
-openHead = yearWord 0 ∷ issuedWord 0 ∷ []
-
--- cell i: its conversion year as plan year, no mark, O and B zero
-unfoldable pub openWords : List ℕ → ℕ → List ℕ
-openWords l i = planWord false (cell l i .conversion) ∷ oxidisedWord 0 ∷ burnedWord 0 ∷ []
-
--- the words beyond those needed are untouched
-unfoldable pub openBook : List ℕ → List ℕ → List ℕ
-openBook l b = openHead ++ blocks (openWords l) (cells l) ++ drop (bookSize (cells l)) b
 
 -- refused by 1 to 6
 unfoldable pub opening : List ℕ → List ℕ → Left

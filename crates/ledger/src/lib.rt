@@ -1,20 +1,11 @@
 // The ledger's six calls. None asks anything of its caller; each answers a number and a place where
 // it is refused, and then it has written nothing.
 ghost use mathlib.Core.Path.{_≡_};
-ghost use mathlib.Core.Bool.{false};
-ghost use mathlib.Core.List.{[], _∷_};
-ghost use Prim.Native.Nat.{_^_, _<_};
-ghost use lib.ListN.{length};
 ghost use Rattle.words.specs.Answers.{outcome};
-ghost use Rattle.words.specs.Blocks.{filled};
-ghost use Rattle.listing.specs.Layout.{cells};
 ghost use Rattle.listing.specs.Accepted.{Accepted};
-ghost use Rattle.book.specs.Layout.{bookHead, entryWords, planWord, oxidisedWord, burnedWord};
-ghost use Rattle.book.specs.Sound.{Fitted, Room};
-ghost use Rattle.ledger.specs.Calls.{leaves, openHead, openWords, openBook, opening, leavesLines, closing, cellChecked, reached, markChecked, standing, planChecked, replanAnswer, replanning, withdrawing, issuedAs, issuing, statedAs, accountOf, stating};
+ghost use Rattle.book.specs.Sound.{Room};
+ghost use Rattle.ledger.specs.Calls.{leaves, opening, leavesLines, closing, cellChecked, reached, markChecked, standing, planChecked, replanAnswer, replanning, withdrawing, issuedAs, issuing, statedAs, accountOf, stating};
 ghost use Rattle.ledger.specs.Reached.{Reached};
-use book::BOOK_HEAD;
-use book::ENTRY_WORDS;
 use words::CELL_CONVERTED;
 use words::CELL_WITHDRAWN;
 use words::NO_SUCH_CELL;
@@ -22,7 +13,6 @@ use words::Outcome;
 use words::Refusal;
 use words::YEAR_NOT_AHEAD;
 use words::refuse;
-use words::word;
 
 // The answer of an issue.
 pub enum Issued {
@@ -48,51 +38,6 @@ pub enum Stated {
     Refused(Refusal),
 }
 
-// Writes a cell of which nothing is lost.
-fn open_cell(cell: &mut [u32], plan: u32)
-    requires { ⌜ (length (now cell) ≡ entryWords) × (plan < 2 ^ 8) ⌝ }
-    ensures { λ _. ⌜ now (cell .exit) ≡ planWord false plan ∷ oxidisedWord 0 ∷ burnedWord 0 ∷ [] ⌝ }
-{
-    cell[0] = word(10, plan);
-    cell[1] = word(11, 0);
-    cell[2] = word(12, 0);
-}
-
-// Writes the first `n` cells, with the plan years of the listing.
-fn open_cells(listing: &[u32], book: &mut [u32], n: usize)
-    requires { ⌜ Fitted (now listing) (now book) × (n ≡ cells (now listing)) ⌝ }
-    ensures { λ _. ⌜ now (book .exit) ≡ filled entryWords (now (book .entry)) bookHead (openWords (now (listing .entry))) n ⌝ }
-{
-    let mut i: usize = 0;
-    while i < n {
-        let a = BOOK_HEAD + ENTRY_WORDS * i;
-        let e = a + ENTRY_WORDS;
-        let c = listing::cell(listing, i);
-        open_cell(&mut book[a..e], c.conversion);
-        i += 1;
-    }
-}
-
-// Year 0, and 0 tonnes issued.
-fn open_head(head: &mut [u32])
-    requires { ⌜ length (now head) ≡ bookHead ⌝ }
-    ensures { λ _. ⌜ now (head .exit) ≡ openHead ⌝ }
-{
-    head[0] = word(8, 0);
-    head[1] = word(9, 0);
-}
-
-fn open_book(listing: &[u32], book: &mut [u32])
-    requires { ⌜ Fitted (now listing) (now book) ⌝ }
-    ensures { λ _. ⌜ now (book .exit) ≡ openBook (now (listing .entry)) (now (book .entry)) ⌝ }
-{
-    let n = listing::head(listing).cells as usize;
-    open_cells(listing, book, n);
-    let a: usize = 0;
-    let e = BOOK_HEAD;
-    open_head(&mut book[a..e]);
-}
-
 // Opens a book for a listing.
 pub fn open(listing: &[u32], book: &mut [u32]) -> Outcome
     ensures { λ r. ⌜ leaves (outcome r) (now (book .exit)) ≡ opening (now (listing .entry)) (now (book .entry)) ⌝ }
@@ -100,7 +45,7 @@ pub fn open(listing: &[u32], book: &mut [u32]) -> Outcome
     let v = book::fits(listing, &book[..]);
     match v {
         Outcome::Done => {
-            open_book(listing, book);
+            opening::open_book(listing, book);
             Outcome::Done
         }
         Outcome::Refused(why) => Outcome::Refused(why),

@@ -4,7 +4,7 @@ use mathlib.Core.List.{List}
 use Prim.Native.Nat.{ℕ}
 use lib.ListN.{length}
 use Rattle.book.specs.Layout.{entryWords}
-use Rattle.ledger.specs.Calls.{openWords}
+use Rattle.opening.specs.Opening.{openWords}
 
 -- its words are three
 pub three-opened : (l : List ℕ) (i : ℕ) → length (openWords l i) ≡ entryWords

@@ -1,9 +1,9 @@
--- `ledger::open_head` meets its contract: both words are written. Assumes nothing.
+-- `opening::open_head` meets its contract: both words are written. Assumes nothing.
 use borrow.Author.Needs.{needs}
 use Rattle.words.proofs.Blocks.{all-set}
-use Rattle.ledger.specs.Calls.{openHead}
-use Rattle.ledger.proofs.open_head.Statement.{statement}
-use Rattle.ledger.proofs.open_head.Tie as tie
+use Rattle.opening.specs.Opening.{openHead}
+use Rattle.opening.proofs.open_head.Statement.{statement}
+use Rattle.opening.proofs.open_head.Tie as tie
 
 returns : tie.Need-returns
 returns c =

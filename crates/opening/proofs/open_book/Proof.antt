@@ -1,4 +1,4 @@
--- `ledger::open_book` meets its contract: the cells are written, then the head. Assumes nothing.
+-- `opening::open_book` meets its contract: the cells are written, then the head. Assumes nothing.
 use mathlib.Core.Path.{ap}
 use native.Mathlib.Omega.{arith}
 use denote.Ref.{now}
@@ -7,9 +7,9 @@ use Rattle.words.proofs.Blocks.{filled-head}
 use Rattle.fields.specs.declared.Head.{Head}
 use Rattle.listing.specs.Layout.{cells}
 use Rattle.book.specs.Layout.{bookHead, entryWords}
-use Rattle.ledger.specs.Calls.{openHead, openWords, openBook}
-use Rattle.ledger.proofs.open_book.Statement.{statement}
-use Rattle.ledger.proofs.open_book.Tie as tie
+use Rattle.opening.specs.Opening.{openHead, openWords, openBook}
+use Rattle.opening.proofs.open_book.Statement.{statement}
+use Rattle.opening.proofs.open_book.Tie as tie
 
 open-cells-requires : tie.Need-open-cells-requires
 open-cells-requires c κs =

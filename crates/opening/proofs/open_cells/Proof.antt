@@ -1,4 +1,4 @@
--- `ledger::open_cells` meets its contract: turn i writes cell i. Assumes nothing.
+-- `opening::open_cells` meets its contract: turn i writes cell i. Assumes nothing.
 use mathlib.Core.Path.{_≡_, refl, ap, _∙_}
 use mathlib.Core.Bool.{false}
 use mathlib.Core.List.{[], _∷_}
@@ -12,10 +12,10 @@ use Rattle.words.specs.Blocks.{filled}
 use Rattle.words.proofs.Blocks.{filled-none, filled-next, length-filled}
 use Rattle.fields.specs.declared.Cell.{Cell}
 use Rattle.book.specs.Layout.{bookHead, entryWords, entryAt, planWord, oxidisedWord, burnedWord}
-use Rattle.ledger.specs.Calls.{openWords}
-use Rattle.ledger.proofs.Opened.{three-opened}
-use Rattle.ledger.proofs.open_cells.Statement.{statement}
-use Rattle.ledger.proofs.open_cells.Tie as tie
+use Rattle.opening.specs.Opening.{openWords}
+use Rattle.opening.proofs.Opened.{three-opened}
+use Rattle.opening.proofs.open_cells.Statement.{statement}
+use Rattle.opening.proofs.open_cells.Tie as tie
 
 abbrev Inv-loop : tie.InvT-loop
 Inv-loop listing book₀ n i₀ book i = (i ≤ n) × (length book ≡ length book₀) × (book ≡ filled entryWords book₀ bookHead (openWords listing) i)

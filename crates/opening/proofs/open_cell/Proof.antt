@@ -1,12 +1,12 @@
--- `ledger::open_cell` meets its contract: all three words are written. Assumes nothing.
+-- `opening::open_cell` meets its contract: all three words are written. Assumes nothing.
 use mathlib.Core.List.{[], _∷_}
 use native.Mathlib.Nat.{zero-add}
 use borrow.Author.Needs.{needs}
 use Rattle.words.proofs.Blocks.{all-set}
 use Rattle.words.specs.Bits.{wordOf}
 use Rattle.book.specs.Layout.{oxidisedWord, burnedWord}
-use Rattle.ledger.proofs.open_cell.Statement.{statement}
-use Rattle.ledger.proofs.open_cell.Tie as tie
+use Rattle.opening.proofs.open_cell.Statement.{statement}
+use Rattle.opening.proofs.open_cell.Tie as tie
 
 returns : tie.Need-returns
 returns c =

@@ -1,0 +1,2 @@
+-- Laws of what an open writes.
+pub mod Opened
