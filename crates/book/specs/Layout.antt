@@ -87,3 +87,16 @@ burnedWord mm = wordOf 12 mm
 -- the three lines of a cell: kind 13 oxidised, 14 burned, 15 kg
 unfoldable pub linesOf : Loss → List ℕ
 linesOf s = wordOf 13 (s .oxidised) ∷ wordOf 14 (s .burned) ∷ wordOf 15 (s .kg) ∷ []
+
+-- cell i's lines are the numbers that a closing left for it in the lines buffer x
+abbrev pub lineAt : ℕ → List ℕ → ℕ → ℕ
+lineAt j x i = number (getD x (lineWords * i + j) 0)
+
+abbrev pub oxidisedLine : List ℕ → ℕ → ℕ
+oxidisedLine = lineAt 0
+
+abbrev pub burnedLine : List ℕ → ℕ → ℕ
+burnedLine = lineAt 1
+
+abbrev pub kgLine : List ℕ → ℕ → ℕ
+kgLine = lineAt 2

@@ -10,7 +10,7 @@ use Rattle.words.specs.Answers.{Answer}
 use Rattle.words.proofs.Answers.{after-says, after-is}
 use Rattle.listing.specs.Layout.{cells, cell}
 use Rattle.year.specs.declared.Entry.{Entry}
-use Rattle.book.specs.Layout.{entryAt, year, issued, entry, issuedWord, planWord}
+use Rattle.book.specs.Layout.{entryAt, year, issued, entry, issuedWord, planWord, oxidisedLine, burnedLine, kgLine}
 use Rattle.book.specs.Check.{fitted, admittedOnly}
 use Rattle.book.proofs.Sound.{sound}
 use Rattle.book.proofs.Entries.{replaced}
@@ -18,7 +18,6 @@ use Rattle.balance.specs.Balance.{tonnesDue}
 use Rattle.closing.specs.Closing.{loss, bookAfter, linesAfter, closeAnswer}
 use Rattle.opening.specs.Opening.{openBook}
 use Rattle.ledger.specs.Calls.{written, opening, closing, standing, replanAnswer, replanning, withdrawing, issueAnswer, issuing}
-use Rattle.history.specs.History.{oxidisedLine, burnedLine, kgLine}
 use Rattle.history.proofs.Says.{Says, grown, planned, marked}
 use Rattle.closing.proofs.Closable.{closable}
 use Rattle.ledger.proofs.Reached.{standing-says, replan-says}

@@ -6,11 +6,10 @@ use mathlib.Core.List.{List, [], _∷_}
 use Prim.Native.Nat.{ℕ, suc, _+_, _*_, _≤_, _<_, max}
 use lib.Dec.{eqb}
 use lib.IntN.{ℤ}
-use lib.ListN.{getD}
 use Rattle.words.specs.Bits.{atLeast0}
 use Rattle.listing.specs.Layout.{head, cells, guard, row, cell}
 use Rattle.year.specs.Year.{unconverted, age, drained, emission}
-use Rattle.book.specs.Layout.{lineWords, number, year, issued, entry}
+use Rattle.book.specs.Layout.{year, issued, entry, oxidisedLine, burnedLine, kgLine}
 use Rattle.book.specs.Check.{admittedOnly}
 use Rattle.balance.specs.Balance.{balance}
 use Rattle.ledger.specs.Calls.{Left, LeftLines, leavesLines, opening, closing, replanning, withdrawing, issuing, stating}
@@ -96,19 +95,6 @@ planIn s (Lines x ∷ h) i = planIn s h i
 planIn s (Planned j y ∷ h) i = cond (eqb j i) y (planIn s h i)
 planIn s (Paid t ∷ h) i = planIn s h i
 planIn s (Nothing ∷ h) i = planIn s h i
-
--- cell i's lines are the numbers that a closing left for it in the lines buffer
-abbrev pub lineAt : ℕ → List ℕ → ℕ → ℕ
-lineAt j x i = number (getD x (lineWords * i + j) 0)
-
-abbrev pub oxidisedLine : List ℕ → ℕ → ℕ
-oxidisedLine = lineAt 0
-
-abbrev pub burnedLine : List ℕ → ℕ → ℕ
-burnedLine = lineAt 1
-
-abbrev pub kgLine : List ℕ → ℕ → ℕ
-kgLine = lineAt 2
 
 -- O, B and kg to date are the sums of these lines
 unfoldable pub sumOf : (List ℕ → ℕ → ℕ) → (ℕ → ℕ) → History → ℕ → ℕ
