@@ -1,0 +1,2 @@
+-- Laws of the answers that cross to C and Rust.
+pub mod Sent

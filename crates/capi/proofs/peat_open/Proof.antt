@@ -1,0 +1,14 @@
+-- `capi::peat_open` meets its contract: the answer is sent as it is, and the book is as the call leaves it. Assumes nothing.
+use borrow.Author.Needs.{needs}
+use Rattle.capi.proofs.Sent.{left-sent}
+use Rattle.capi.proofs.peat_open.Statement.{statement}
+use Rattle.capi.proofs.peat_open.Tie as tie
+
+pub peat-open-spec : {M : Type 1} → statement M
+peat-open-spec =
+    tie.close
+    (tie.spec
+    (λ c κs. search needs)
+    (λ c κs. search needs)
+    (λ c. search needs)
+    (λ c. left-sent _ _ (c .of-outcome .ensures) (c .before .before .before .«open» .ensures)))

@@ -1,0 +1,210 @@
+// The calls for C and Rust: numbers and slices cross the border, and answers as structs. A slice is
+// a pointer and then its length; include/peat.h has the declarations.
+ghost use mathlib.Core.Path.{_≡_};
+ghost use Rattle.words.specs.Answers.{accepted, refused, outcome};
+ghost use Rattle.ledger.specs.Calls.{opening, closing, replanning, withdrawing, issuedAs, issuing, statedAs, stating};
+ghost use Rattle.reading.specs.Depth.{measured, depth};
+ghost use Rattle.reading.specs.declared.Reading.the-variants.{Core, Levels, Missing};
+ghost use Rattle.discount.specs.Discount.{discounted, discount};
+ghost use Rattle.capi.specs.Sent.{sent, told};
+use discount::Discounted;
+use ledger::Issued;
+use ledger::Stated;
+use reading::Measured;
+use reading::Reading;
+use words::Outcome;
+use words::Refusal;
+
+// The answer of a call: number 0 where it is accepted, and otherwise the refusal's number and place,
+// with the value 0.
+#[repr(C)]
+pub struct Reply {
+    pub number: u32,
+    pub place: usize,
+    pub value: u32,
+}
+
+// The answer of a statement: number and place as above, and what is told of the cell.
+#[repr(C)]
+pub struct Statement {
+    pub number: u32,
+    pub place: usize,
+    pub entered: u32,
+    pub remaining: u32,
+    pub oxidised: u32,
+    pub burned: u32,
+    pub kg: u32,
+    pub plan_year: u32,
+    pub withdrawn: bool,
+}
+
+fn accept(value: u32) -> Reply
+    ensures { λ r. ⌜ r ≡ sent (accepted value) ⌝ }
+{
+    Reply {
+        number: 0,
+        place: 0,
+        value,
+    }
+}
+
+fn refuse(why: Refusal) -> Reply
+    ensures { λ r. ⌜ r ≡ sent (refused (why .number) (why .place)) ⌝ }
+{
+    Reply {
+        number: why.number,
+        place: why.place,
+        value: 0,
+    }
+}
+
+fn of_outcome(answer: Outcome) -> Reply
+    ensures { λ r. ⌜ r ≡ sent (outcome answer) ⌝ }
+{
+    match answer {
+        Outcome::Done => accept(0),
+        Outcome::Refused(why) => refuse(why),
+    }
+}
+
+fn of_issued(answer: Issued) -> Reply
+    ensures { λ r. ⌜ r ≡ sent (issuedAs answer) ⌝ }
+{
+    match answer {
+        Issued::Tonnes(tonnes) => accept(tonnes),
+        Issued::Refused(why) => refuse(why),
+    }
+}
+
+fn of_measured(answer: Measured) -> Reply
+    ensures { λ r. ⌜ r ≡ sent (measured answer) ⌝ }
+{
+    match answer {
+        Measured::Millimetres(mm) => accept(mm),
+        Measured::Refused(why) => refuse(why),
+    }
+}
+
+fn of_discounted(answer: Discounted) -> Reply
+    ensures { λ r. ⌜ r ≡ sent (discounted answer) ⌝ }
+{
+    match answer {
+        Discounted::TenThousandths(n) => accept(n),
+        Discounted::Refused(why) => refuse(why),
+    }
+}
+
+fn of_stated(answer: Stated) -> Statement
+    ensures { λ r. ⌜ r ≡ told (statedAs answer) ⌝ }
+{
+    match answer {
+        Stated::Told(a) => Statement {
+            number: 0,
+            place: 0,
+            entered: a.entered,
+            remaining: a.remaining,
+            oxidised: a.oxidised,
+            burned: a.burned,
+            kg: a.kg,
+            plan_year: a.plan_year,
+            withdrawn: a.withdrawn,
+        },
+        Stated::Refused(why) => Statement {
+            number: why.number,
+            place: why.place,
+            entered: 0,
+            remaining: 0,
+            oxidised: 0,
+            burned: 0,
+            kg: 0,
+            plan_year: 0,
+            withdrawn: false,
+        },
+    }
+}
+
+#[no_mangle]
+pub extern "C" fn peat_open(listing: &[u32], book: &mut [u32]) -> Reply
+    ensures { λ r. ⌜ r ≡ sent (opening (now (listing .entry)) (now (book .entry)) .answer) ⌝ }
+    ensures { λ _. ⌜ now (book .exit) ≡ opening (now (listing .entry)) (now (book .entry)) .book ⌝ }
+{
+    of_outcome(ledger::open(listing, book))
+}
+
+#[no_mangle]
+pub extern "C" fn peat_close(listing: &[u32], book: &mut [u32], lines: &mut [u32]) -> Reply
+    ensures { λ r. ⌜ r ≡ sent (closing (now (listing .entry)) (now (book .entry)) (now (lines .entry)) .answer) ⌝ }
+    ensures { λ _. ⌜ now (book .exit) ≡ closing (now (listing .entry)) (now (book .entry)) (now (lines .entry)) .book ⌝ }
+    ensures { λ _. ⌜ now (lines .exit) ≡ closing (now (listing .entry)) (now (book .entry)) (now (lines .entry)) .lines ⌝ }
+{
+    of_outcome(ledger::close(listing, book, lines))
+}
+
+#[no_mangle]
+pub extern "C" fn peat_replan(listing: &[u32], book: &mut [u32], cell: usize, year: u32) -> Reply
+    ensures { λ r. ⌜ r ≡ sent (replanning (now (listing .entry)) (now (book .entry)) cell year .answer) ⌝ }
+    ensures { λ _. ⌜ now (book .exit) ≡ replanning (now (listing .entry)) (now (book .entry)) cell year .book ⌝ }
+{
+    of_outcome(ledger::replan(listing, book, cell, year))
+}
+
+#[no_mangle]
+pub extern "C" fn peat_withdraw(listing: &[u32], book: &mut [u32], cell: usize) -> Reply
+    ensures { λ r. ⌜ r ≡ sent (withdrawing (now (listing .entry)) (now (book .entry)) cell .answer) ⌝ }
+    ensures { λ _. ⌜ now (book .exit) ≡ withdrawing (now (listing .entry)) (now (book .entry)) cell .book ⌝ }
+{
+    of_outcome(ledger::withdraw(listing, book, cell))
+}
+
+// The value is the tonnes issued.
+#[no_mangle]
+pub extern "C" fn peat_issue(listing: &[u32], book: &mut [u32]) -> Reply
+    ensures { λ r. ⌜ r ≡ sent (issuing (now (listing .entry)) (now (book .entry)) .answer) ⌝ }
+    ensures { λ _. ⌜ now (book .exit) ≡ issuing (now (listing .entry)) (now (book .entry)) .book ⌝ }
+{
+    of_issued(ledger::issue(listing, book))
+}
+
+#[no_mangle]
+pub extern "C" fn peat_statement(listing: &[u32], book: &[u32], cell: usize) -> Statement
+    ensures { λ r. ⌜ r ≡ told (stating (now (listing .entry)) (now (book .entry)) cell) ⌝ }
+{
+    of_stated(ledger::statement(listing, book, cell))
+}
+
+// The depth of a core; the value is its mm, as for the two calls below.
+#[no_mangle]
+pub extern "C" fn peat_core(metres: f32) -> Reply
+    ensures { λ r. ⌜ r ≡ sent (depth (Core metres)) ⌝ }
+{
+    of_measured(reading::depth(Reading::Core(metres)))
+}
+
+// The depth between a pair of levels.
+#[no_mangle]
+pub extern "C" fn peat_levels(surface: f32, base: f32) -> Reply
+    ensures { λ r. ⌜ r ≡ sent (depth (Levels surface base)) ⌝ }
+{
+    of_measured(reading::depth(Reading::Levels(surface, base)))
+}
+
+// The answer to a reading that is missing.
+#[no_mangle]
+pub extern "C" fn peat_missing() -> Reply
+    ensures { λ r. ⌜ r ≡ sent (depth Missing) ⌝ }
+{
+    of_measured(reading::depth(Reading::Missing))
+}
+
+// The value is the discount in ten-thousandths.
+#[no_mangle]
+pub extern "C" fn peat_discount(
+    first_widths: &[u32],
+    second_widths: &[u32],
+    first_stocks: &[u32],
+    second_stocks: &[u32],
+) -> Reply
+    ensures { λ r. ⌜ r ≡ sent (discount (now («first_widths» .entry)) (now («second_widths» .entry)) (now («first_stocks» .entry)) (now («second_stocks» .entry))) ⌝ }
+{
+    of_discounted(discount::discount(first_widths, second_widths, first_stocks, second_stocks))
+}
