@@ -1,0 +1,2 @@
+-- Laws of words put one after the other.
+pub mod Stored

@@ -1,0 +1,2 @@
+-- What the contract of decode cites.
+pub mod Decode
