@@ -1,8 +1,8 @@
--- `trials::terms_are` asks for the terms of an accepted listing only. Assumes nothing.
+-- `worked::terms_are` asks for the terms of an accepted listing only. Assumes nothing.
 use borrow.Author.Needs.{needs}
 use Rattle.listing.proofs.Accepted.{accepted-done}
-use Rattle.trials.proofs.terms_are.Statement.{statement}
-use Rattle.trials.proofs.terms_are.Tie as tie
+use Rattle.worked.proofs.terms_are.Statement.{statement}
+use Rattle.worked.proofs.terms_are.Tie as tie
 
 pub terms-are-spec : {M : Type 1} → statement M
 terms-are-spec =

@@ -1,9 +1,9 @@
--- `trials::handed` ends: each turn comes nearer to the end of the lines. Assumes nothing.
+-- `worked::handed` ends: each turn comes nearer to the end of the lines. Assumes nothing.
 use borrow.Author.Needs.{needs}
 use Prim.Native.Nat.{_-_, _≤_}
 use lib.ListN.{length}
-use Rattle.trials.proofs.handed.Statement.{statement}
-use Rattle.trials.proofs.handed.Tie as tie
+use Rattle.worked.proofs.handed.Statement.{statement}
+use Rattle.worked.proofs.handed.Tie as tie
 
 abbrev Inv-loop : tie.InvT-loop
 Inv-loop name lines i k₀ k = k ≤ length lines

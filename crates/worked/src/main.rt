@@ -1,5 +1,5 @@
 // Document 01's worked figures and refusals, run through the calls. Each line says what was asked,
-// and then the number, the place and the value of the answer; crates/trials/stdout has what document
+// and then the number, the place and the value of the answer; crates/worked/stdout has what document
 // 01 gives.
 use discount::Discounted;
 use ledger::Issued;

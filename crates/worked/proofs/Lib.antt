@@ -1,0 +1,2 @@
+-- The theorem on the worked figures.
+pub mod Agrees

@@ -1,0 +1,2 @@
+-- Document 01, "Worked on paper".
+pub mod Worked
