@@ -29,7 +29,7 @@ admitted-fitted l b perCell room h = after-says _ _ h .0
 module _ (l b : List ℕ) (a : admittedOnly l b .done ≡ true) where
   -- one word stored, and all words right
   stored : (k w : ℕ) → Right l (set b k w) → admittedOnly l (set b k w) .done ≡ true
-  stored k w r = right-admits l (set b k w) (fitted-length l b (set b k w) (length-set b k w) (admitted-fitted l b 0 0 a)) r
+  stored k w r = right-admits l (set b k w) 0 0 (omega arith) (fitted-length l b (set b k w) (length-set b k w) (admitted-fitted l b 0 0 a)) r
 
   pub admitted-room : bookSize (cells l) ≤ length b
   admitted-room = sound l b 0 0 a .fitted .room
@@ -75,7 +75,7 @@ pub filled-admits :
 filled-admits l b fits y s f sized w =
     let room = fitted-says l b fits .room in
     let front : bookHead ≤ length b = omega arith in
-    right-admits l _ (fitted-length l b _ (length-filled entryWords b bookHead f sized front (cells l) room) fits)
+    right-admits l _ 0 0 (omega arith) (fitted-length l b _ (length-filled entryWords b bookHead f sized front (cells l) room) fits)
     (record {
       year = rw (filled-before entryWords b bookHead f sized front (cells l) 0 (omega arith)) y;
       issued = rw (filled-before entryWords b bookHead f sized front (cells l) 1 (omega arith)) s;

@@ -2,7 +2,7 @@
 use mathlib.Core.Path.{_≡_, sym, ap, _∙_}
 use mathlib.Core.Bool.{Bool, true, cond}
 use mathlib.Core.List.{List}
-use Prim.Native.Nat.{ℕ, zero-le, _+_, _-_, _*_, _/_, _%_, _<_}
+use Prim.Native.Nat.{ℕ, zero-le, _+_, _-_, _*_, _/_, _%_, _≤_, _<_}
 use native.Mathlib.Omega.{arith}
 use lib.Dec.{leb, ltb, eqb}
 use lib.ListN.{getD}
@@ -117,16 +117,19 @@ module _ (l b : List ℕ) where
       let h₂ = every-says _ _ _ _ _ (h₁ .1) in
       named (λ k q. h₂ .0 k zero-le q)
 
-  pub right-admits : fitted l b .done ≡ true → Right l b → admittedOnly l b .done ≡ true
+  pub right-admits : (perCell room : ℕ) → perCell * cells l ≤ room → fitted l b .done ≡ true → Right l b → admitted l b perCell room .done ≡ true
   unfolding admitted bookChecked
-  right-admits f r =
+  right-admits perCell room enough f r =
       sym
       (ap (λ (a : Answer). a .done)
       (every-is bookWord (bookRight l b) 0 (bookSize (cells l)) (accepted 0) zero-le (λ k p q. placed r k q)
-      ∙ need-is (leb (0 * cells l) 0) linesShort 0 _ (le-leb (0 * cells l) 0 (omega arith))
+      ∙ need-is (leb (perCell * cells l) room) linesShort room _ (le-leb (perCell * cells l) room enough)
       ∙ after-is _ (fitted l b) f))
 
   -- room for lines is no matter of the book
-  pub admitted-only : (perCell room : ℕ) → admitted l b perCell room .done ≡ true → admittedOnly l b .done ≡ true
+  pub admitted-with : (perCell room perCell′ room′ : ℕ) → perCell′ * cells l ≤ room′ → admitted l b perCell room .done ≡ true → admitted l b perCell′ room′ .done ≡ true
   unfolding admitted
-  admitted-only perCell room h = right-admits (after-says _ _ h .0) (admitted-right perCell room h)
+  admitted-with perCell room perCell′ room′ enough h = right-admits perCell′ room′ enough (after-says _ _ h .0) (admitted-right perCell room h)
+
+  pub admitted-only : (perCell room : ℕ) → admitted l b perCell room .done ≡ true → admittedOnly l b .done ≡ true
+  admitted-only perCell room = admitted-with perCell room 0 0 (omega arith)

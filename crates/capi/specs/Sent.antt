@@ -1,6 +1,14 @@
 -- How the answers of the calls cross to C and Rust: the paper's numbers, field by field.
+use mathlib.Core.Path.{_≡_}
+use mathlib.Core.List.{List}
+use Prim.Native.Nat.{ℕ}
+use lib.Dec.{eqb}
 use Rattle.words.specs.Answers.{Answer}
-use Rattle.ledger.specs.Calls.{Telling}
+use Rattle.ledger.specs.Calls.{opening, closing, replanning, withdrawing, issuing, Telling, stating}
+use Rattle.forecast.specs.Forecast.{forecasting}
+use Rattle.reading.specs.Depth.{depth}
+use Rattle.reading.specs.declared.Reading.{Reading}
+use Rattle.discount.specs.Discount.{discount}
 use Rattle.capi.specs.declared.Reply.{Reply}
 use Rattle.capi.specs.declared.Statement.{Statement}
 
@@ -22,3 +30,21 @@ told t =
       «plan_year» = t .account .«plan_year»;
       withdrawn = t .account .withdrawn;
     }
+
+-- ---- what a caller may take number 0 for
+
+-- an answer has number 0 exactly where the call was accepted
+pub record Numbered (a : Answer) : Type 0 where
+  pub exactly : a .done ≡ eqb (a .number) 0
+
+-- every call answers so, whatever it is lent
+pub record EveryNumber : Type 0 where
+  pub of-open : (l b : List ℕ) → Numbered (opening l b .answer)
+  pub of-close : (l b x : List ℕ) → Numbered (closing l b x .answer)
+  pub of-replan : (l b : List ℕ) (i y : ℕ) → Numbered (replanning l b i y .answer)
+  pub of-withdraw : (l b : List ℕ) (i : ℕ) → Numbered (withdrawing l b i .answer)
+  pub of-issue : (l b : List ℕ) → Numbered (issuing l b .answer)
+  pub of-statement : (l b : List ℕ) (i : ℕ) → Numbered (stating l b i .answer)
+  pub of-forecast : (l b x : List ℕ) → Numbered (forecasting l b x .answer)
+  pub of-depth : (reading : Reading) → Numbered (depth reading)
+  pub of-discount : (firstWidths secondWidths firstStocks secondStocks : List ℕ) → Numbered (discount firstWidths secondWidths firstStocks secondStocks)

@@ -3,6 +3,7 @@
 ghost use mathlib.Core.Path.{_≡_};
 ghost use Rattle.words.specs.Answers.{accepted, refused, outcome};
 ghost use Rattle.ledger.specs.Calls.{opening, closing, replanning, withdrawing, issuedAs, issuing, statedAs, stating};
+ghost use Rattle.forecast.specs.Forecast.{forecasting};
 ghost use Rattle.reading.specs.Depth.{measured, depth};
 ghost use Rattle.reading.specs.declared.Reading.the-variants.{Core, Levels, Missing};
 ghost use Rattle.discount.specs.Discount.{discounted, discount};
@@ -170,6 +171,15 @@ pub extern "C" fn peat_statement(listing: &[u32], book: &[u32], cell: usize) -> 
     ensures { λ r. ⌜ r ≡ told (stating (now (listing .entry)) (now (book .entry)) cell) ⌝ }
 {
     of_stated(ledger::statement(listing, book, cell))
+}
+
+#[no_mangle]
+pub extern "C" fn peat_forecast(listing: &[u32], book: &mut [u32], output: &mut [u64]) -> Reply
+    ensures { λ r. ⌜ r ≡ sent (forecasting (now (listing .entry)) (now (book .entry)) (now (output .entry)) .answer) ⌝ }
+    ensures { λ _. ⌜ now (book .exit) ≡ forecasting (now (listing .entry)) (now (book .entry)) (now (output .entry)) .book ⌝ }
+    ensures { λ _. ⌜ now (output .exit) ≡ forecasting (now (listing .entry)) (now (book .entry)) (now (output .entry)) .output ⌝ }
+{
+    of_outcome(forecast::forecast(listing, book, output))
 }
 
 // The depth of a core; the value is its mm, as for the two calls below.

@@ -2,15 +2,16 @@
 use mathlib.Core.Path.{_≡_, refl, sym, ap, _∙_}
 use mathlib.Core.Bool.{Bool, true, false}
 use mathlib.Core.List.{List, [], _∷_}
-use Prim.Native.Nat.{ℕ, zero-le, _+_, _≤_, _<_}
+use Prim.Native.Nat.{ℕ, zero-le, _+_, _*_, _≤_, _<_}
 use native.Mathlib.Omega.{arith}
 use lib.Dec.{eqb, ltb}
 use lib.ListN.{length, getD, set}
-use borrow.Author.Tests.{le-leb, lt-leb, leb-true, ltb-true, ltb-false, eqb-false}
-use Rattle.words.specs.Answers.{Answer, outcome}
+use borrow.Author.Tests.{le-leb, lt-leb, lt-ltb, leb-true, ltb-true, ltb-false, eqb-false}
+use Rattle.words.specs.Answers.{Answer, accepted, outcome}
+use Rattle.words.specs.Refusals.{horizonReached, lineTooLarge}
 use Rattle.words.specs.declared.Outcome.{Outcome}
 use Rattle.words.specs.declared.Outcome.the-variants.{Done}
-use Rattle.words.proofs.Answers.{need-says, every-says, after-says}
+use Rattle.words.proofs.Answers.{need-says, every-says, after-says, need-is, every-is, after-is}
 use Rattle.fields.specs.declared.Head.{Head}
 use Rattle.fields.specs.declared.Cell.{Cell}
 use Rattle.fields.specs.declared.Row.{Row}
@@ -20,10 +21,11 @@ use Rattle.year.specs.Year.{unconverted, rests, age, lossOf, none, yearLoss}
 use Rattle.year.specs.Fit.{Fit}
 use Rattle.year.specs.declared.Entry.{Entry}
 use Rattle.year.specs.declared.Loss.{Loss}
-use Rattle.year.proofs.Laws.{or-false, awake, most-entered, year-most}
-use Rattle.book.specs.Layout.{entryWords, lineWords, entryOf, entry, oxidisedWord, burnedWord}
-use Rattle.book.specs.Check.{admitted, bookChecked}
+use Rattle.year.proofs.Laws.{or-false, awake, most-entered, year-most, year-kg-most}
+use Rattle.book.specs.Layout.{entryWords, lineWords, year, entryOf, entry, oxidisedWord, burnedWord}
+use Rattle.book.specs.Check.{admitted, admittedOnly, bookChecked}
 use Rattle.book.specs.Sound.{Room}
+use Rattle.book.proofs.Right.{admitted-with}
 use Rattle.book.proofs.Sound.{sound, sound-room, entry-fit}
 use Rattle.closing.specs.Closing.{cellLoss, loss, wordsAfter, mostNumber, fineLine, yearChecked, closeAnswer}
 use Rattle.closing.specs.Closable.{Losing, Timely, Closable}
@@ -126,7 +128,7 @@ module _ {l : List ℕ} {h : Head} {b : List ℕ} {t : ℕ} (g : Timely l h b t)
     unfolding fineLine
     line-large lt = lt-leb _ _ (rw told at lt)
 
--- ---- a closing that is accepted
+-- ---- a closing that is accepted, and one that can be
 module _ (l b : List ℕ) (room : ℕ) where
   pub closable : closeAnswer l b room .done ≡ true → Closable l b room
   unfolding closeAnswer admitted bookChecked yearChecked fineLine
@@ -146,3 +148,26 @@ module _ (l b : List ℕ) (room : ℕ) where
 
   pub closable-done : (v : Outcome) → outcome v ≡ closeAnswer l b room → v ≡ Done → Closable l b room
   closable-done v e d = closable (ap (λ (a : Answer). a .done) (sym e ∙ ap outcome d))
+
+  -- an accepted book before the horizon, with room for its lines: no kg line is too large for its word
+  pub closable-before : lineWords * cells l ≤ room → year b < horizon l → admittedOnly l b .done ≡ true → Closable l b room
+  closable-before enough ahead a =
+      let s = sound l b 0 0 a in
+      let right = s .fitted .accepted in
+      record {
+        admits = admitted-with l b 0 0 lineWords room enough a;
+        sound = s;
+        ahead = ahead;
+        room = enough;
+        fits = λ i lt. omega (arith, year-kg-most (head l) (row l) (cell l i) (entry b i) (year b + 1) (right .head-right) (right .cell-right i lt) (right .row-right));
+      }
+
+  -- what can be closed is
+  pub closes : Closable l b room → closeAnswer l b room .done ≡ true
+  unfolding closeAnswer yearChecked fineLine
+  closes k =
+      sym
+      (ap (λ (a : Answer). a .done)
+      (every-is lineTooLarge (fineLine l b) 0 (cells l) (accepted 0) zero-le (λ i p lt. le-leb (loss l b i .kg) mostNumber (k .fits i lt))
+      ∙ need-is (ltb (year b) (horizon l)) horizonReached 0 _ (lt-ltb (year b) (horizon l) (k .ahead))
+      ∙ after-is _ (admitted l b lineWords room) (k .admits)))

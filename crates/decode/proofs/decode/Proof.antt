@@ -1,16 +1,15 @@
 -- `decode::decode` meets its contract: turn i stores word i. Assumes nothing.
 use mathlib.Core.Path.{_≡_, refl, ap, _∙_}
 use mathlib.Core.List.{[], _∷_}
-use Prim.Native.Nat.{zero-le, _-_, _*_, _/_, _≤_}
+use Prim.Native.Nat.{ℕ, zero-le, _-_, _*_, _≤_}
 use native.Mathlib.Nat.{le-antisymm}
 use native.Mathlib.Omega.{arith}
 use lib.ListN.{length, length-set}
 use denote.Ref.{now}
 use borrow.Author.Needs.{needs}
 use Rattle.words.specs.Blocks.{filled}
-use Rattle.words.proofs.Blocks.{filled-none}
+use Rattle.words.proofs.Blocks.{filled-none, filled-stored}
 use Rattle.decode.specs.Decode.{wordAt, decoded}
-use Rattle.decode.proofs.Stored.{stored}
 use Rattle.decode.proofs.decode.Statement.{statement}
 use Rattle.decode.proofs.decode.Tie as tie
 
@@ -29,7 +28,7 @@ loop-again c =
     let t = c .before .before .loop in
     let s = c .before .before .before .before .before in
     let b = now (s .args .bytes) in
-    (omega arith, rw length-set (t .inv .1), stored (now (s .args .words)) (λ k. wordAt b (4 * k)) (t .words) (t .i) (t .inv .2) (omega arith) (c .word-at .ensures))
+    (omega arith, rw length-set (t .inv .1), filled-stored (now (s .args .words)) (λ k. wordAt b (4 * k) ∷ []) (λ k. refl) (t .i) _ (t .inv .2) (omega arith) (ap (λ (w : ℕ). w ∷ []) (c .word-at .ensures)))
 
 returns : tie.Need-returns Inv-loop μ-loop
 unfolding decoded

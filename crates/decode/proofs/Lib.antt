@@ -1,2 +1,0 @@
--- Laws of words put one after the other.
-pub mod Stored

@@ -1,0 +1,3 @@
+-- What the contract of the forecast cites; last, that it is what open and close hand out.
+pub mod Forecast
+pub mod Closings
