@@ -1,0 +1,125 @@
+//! A project's figures, and the words of document 01's listing that say them.
+
+/// A stratum's year of age: drainage in cm, greatest oxidation and burning in mm.
+#[derive(Clone, Copy, Debug)]
+pub struct Row {
+    pub drainage: u32,
+    pub oxidation: u32,
+    pub burning: u32,
+}
+
+/// Entered depth in mm, area in m², carbon density in tenths of kg per m³; conversion 0 is never.
+#[derive(Clone, Copy, Debug)]
+pub struct Cell {
+    pub stratum: u32,
+    pub conversion: u32,
+    pub entered: u32,
+    pub area: u32,
+    pub density: u32,
+}
+
+#[derive(Clone, Copy, Debug)]
+pub struct YearlyTerm {
+    pub year: u32,
+    pub term: u32,
+    pub tonnes: i32,
+}
+
+/// Buffer in percent, warming potential of methane, methane emission ratio in thousandths.
+#[derive(Clone, Debug)]
+pub struct Site {
+    pub horizon: u32,
+    pub buffer: u32,
+    pub warming: u32,
+    pub methane: u32,
+    pub tables: Vec<Vec<Row>>,
+    pub cells: Vec<Cell>,
+    pub terms: Vec<YearlyTerm>,
+}
+
+/// What one word of a listing says.
+pub enum Says<'a> {
+    Head(&'a Site),
+    Rates(&'a Site),
+    Row(usize, usize, Row),
+    Peat(usize, Cell),
+    Ground(usize, Cell),
+    Term(YearlyTerm),
+}
+
+impl Site {
+    /// The listing, word for word.
+    pub fn says(&self) -> Vec<Says<'_>> {
+        let mut says = vec![Says::Head(self), Says::Rates(self)];
+        for (stratum, table) in self.tables.iter().enumerate() {
+            says.extend(
+                (1..)
+                    .zip(table)
+                    .map(|(age, &row)| Says::Row(stratum, age, row)),
+            );
+        }
+        for (i, &cell) in self.cells.iter().enumerate() {
+            says.extend([Says::Peat(i, cell), Says::Ground(i, cell)]);
+        }
+        says.extend(self.terms.iter().map(|&term| Says::Term(term)));
+        says
+    }
+
+    pub fn words(&self) -> Vec<u32> {
+        self.says().iter().map(Says::word).collect()
+    }
+}
+
+impl Says<'_> {
+    pub fn word(&self) -> u32 {
+        match *self {
+            Says::Head(site) => {
+                let (cells, strata) = (site.cells.len() as u32, site.tables.len() as u32);
+                1 << 28 | cells << 16 | strata << 8 | site.horizon
+            }
+            Says::Rates(site) => 2 << 28 | site.buffer << 16 | site.warming << 8 | site.methane,
+            Says::Row(_, _, row) => {
+                3 << 28 | row.drainage << 20 | row.oxidation << 10 | row.burning
+            }
+            Says::Peat(_, cell) => {
+                4 << 28 | cell.stratum << 24 | cell.conversion << 16 | cell.entered
+            }
+            Says::Ground(_, cell) => 5 << 28 | cell.area << 12 | cell.density,
+            Says::Term(term) => {
+                6 << 28 | term.term << 24 | term.year << 17 | term.tonnes as u32 & 0x1_FFFF
+            }
+        }
+    }
+
+    /// The same in plain words.
+    pub fn text(&self) -> String {
+        match *self {
+            Says::Head(site) => format!(
+                "cells {}, strata {}, horizon {} years",
+                site.cells.len(),
+                site.tables.len(),
+                site.horizon
+            ),
+            Says::Rates(site) => format!(
+                "buffer {} percent, warming potential of methane {}, methane emission ratio {} thousandths",
+                site.buffer, site.warming, site.methane
+            ),
+            Says::Row(stratum, age, row) => format!(
+                "stratum {stratum}, age {age}: drainage {} cm, oxidation at most {} mm, burning at most {} mm",
+                row.drainage, row.oxidation, row.burning
+            ),
+            Says::Peat(i, cell) => format!(
+                "cell {i}: stratum {}, conversion year {}, entered depth {} mm",
+                cell.stratum, cell.conversion, cell.entered
+            ),
+            Says::Ground(i, cell) => format!(
+                "cell {i}: area {} m2, carbon density {} tenths of kg per m3",
+                cell.area, cell.density
+            ),
+            Says::Term(term) => format!(
+                "year {}: term {}, {} tonnes",
+                term.year, term.term, term.tonnes
+            ),
+        }
+    }
+}
