@@ -6,7 +6,7 @@ use Prim.Native.Nat.{ℕ, zero-le, _+_, _*_, _≤_, _<_}
 use native.Mathlib.Omega.{arith}
 use lib.Dec.{eqb, ltb}
 use lib.ListN.{length, getD, set}
-use borrow.Author.Tests.{le-leb, lt-leb, lt-ltb, leb-true, ltb-true, ltb-false, eqb-false}
+use borrow.Author.Tests.{le-leb, lt-ltb, leb-true, ltb-true, ltb-false, eqb-false}
 use Rattle.words.specs.Answers.{Answer, accepted, outcome}
 use Rattle.words.specs.Refusals.{horizonReached, lineTooLarge}
 use Rattle.words.specs.declared.Outcome.{Outcome}
@@ -24,9 +24,9 @@ use Rattle.year.specs.declared.Loss.{Loss}
 use Rattle.year.proofs.Laws.{or-false, awake, most-entered, year-most, year-kg-most}
 use Rattle.book.specs.Layout.{entryWords, lineWords, year, entryOf, entry, oxidisedWord, burnedWord}
 use Rattle.book.specs.Check.{admitted, admittedOnly, bookChecked}
-use Rattle.book.specs.Sound.{Room}
+use Rattle.book.specs.Sound.{Room, Sound}
 use Rattle.book.proofs.Right.{admitted-with}
-use Rattle.book.proofs.Sound.{sound, sound-room, entry-fit}
+use Rattle.book.proofs.Sound.{sound, sound-room}
 use Rattle.closing.specs.Closing.{cellLoss, loss, wordsAfter, mostNumber, fineLine, yearChecked, closeAnswer}
 use Rattle.closing.specs.Closable.{Losing, Timely, Closable}
 
@@ -48,62 +48,64 @@ last-two (x ∷ y ∷ z ∷ []) o b h = refl
 last-two (x ∷ y ∷ z ∷ u ∷ w) o b h = absurd (omega arith)
 
 -- ---- a cell that is worked out
-module _ {l : List ℕ} {h : Head} {i : ℕ} {e : Entry} {t : ℕ} (g : Losing l h i e t) where
-  -- if it does not rest, its table has a row for its age
-  pub losing-age : rests (head l) (cell l i) e t ≡ false → (e .plan ≤ t) × (cell l i .stratum < strata l) × (1 ≤ age (e .plan) t) × (age (e .plan) t ≤ horizon l)
-  losing-age q =
-      let c = converted (e .plan) t (awake (head l) (cell l i) e t q .0) in
-      let right = g .accepted .cell-right i (g .there) in
-      let time = g .in-time in
-      (c .1, right .stratum, omega arith, omega arith)
-
+module _ {l : List ℕ} {h : Head} {c : Cell} {e : Entry} {t : ℕ} (g : Losing l h c e t) where
   -- its mm to date after the year, and so the year's, are at most 20,000
-  pub lost-then : (e .oxidised + yearLoss (head l) (row l) (cell l i) e t .oxidised) + (e .burned + yearLoss (head l) (row l) (cell l i) e t .burned) ≤ 20000
-  lost-then =
-      let right = g .accepted .cell-right i (g .there) in
-      omega (arith, right .entered, most-entered (head l) (cell l i), year-most (head l) (row l) (cell l i) e t (g .entry-right .most))
+  pub lost-then : (e .oxidised + yearLoss (head l) (row l) c e t .oxidised) + (e .burned + yearLoss (head l) (row l) c e t .burned) ≤ 20000
+  lost-then = omega (arith, g .cell-right .entered, most-entered (head l) c, year-most (head l) (row l) c e t (g .entry-right .most))
 
-  -- what its calls were given and answered: c the cell, b whether it rests
-  module _ (c : Cell) (c-is : c ≡ cell l i) (b : Bool) (b-is : b ≡ rests h c e t) where
-    rests-is : b ≡ rests (head l) (cell l i) e t
-    rests-is = rw (g .head-is, c-is) at b-is
+  -- b is what its call answered whether it rests
+  module _ (b : Bool) (b-is : b ≡ rests h c e t) where
+    rests-is : b ≡ rests (head l) c e t
+    rests-is = rw (g .head-is) at b-is
 
-    pub asleep-loss : b ≡ true → none ≡ yearLoss (head l) (row l) (cell l i) e t
+    pub asleep-loss : b ≡ true → none ≡ yearLoss (head l) (row l) c e t
     unfolding yearLoss
     asleep-loss q = rw (sym rests-is ∙ q)
 
+    -- if it does not rest, its table has a row for its age
     module _ (q : b ≡ false) where
       pub awake-age : (e .plan ≤ t) × (c .stratum < strata l) × (1 ≤ age (e .plan) t) × (age (e .plan) t ≤ horizon l)
-      awake-age = rw c-is (losing-age (sym rests-is ∙ q))
+      awake-age =
+          let p = converted (e .plan) t (awake (head l) c e t (sym rests-is ∙ q) .0) in
+          let time = g .in-time in
+          (p .1, g .cell-right .stratum, omega arith, omega arith)
 
       pub awake-fit : (r : Row) → r ≡ row l (c .stratum) (age (e .plan) t) → Fit h c (e .oxidised) (e .burned) × RowRight r
-      awake-fit r r-is = rw (r-is, g .head-is, c-is) (entry-fit l i e (g .accepted) (g .there) (g .entry-right), g .accepted .row-right (cell l i .stratum) (age (e .plan) t))
+      awake-fit r r-is =
+          rw (r-is, g .head-is)
+          (record { head-right = g .accepted .head-right; cell-right = g .cell-right; lost = g .entry-right .lost }, g .accepted .row-right (c .stratum) (age (e .plan) t))
 
-      pub awake-loss : (r : Row) → r ≡ row l (c .stratum) (age (e .plan) t) → (s : Loss) → s ≡ lossOf h c r e → s ≡ yearLoss (head l) (row l) (cell l i) e t
+      pub awake-loss : (r : Row) → r ≡ row l (c .stratum) (age (e .plan) t) → (s : Loss) → s ≡ lossOf h c r e → s ≡ yearLoss (head l) (row l) c e t
       unfolding yearLoss
-      awake-loss r r-is s s-is = rw (sym rests-is ∙ q, s-is, r-is, g .head-is, c-is)
+      awake-loss r r-is s s-is = rw (sym rests-is ∙ q, s-is, r-is, g .head-is)
 
--- a cell's own words w, which the step was lent: e is the entry that it read, s the loss that it was told
-module _ {l : List ℕ} {h : Head} {i t : ℕ} (w : List ℕ) (g : Losing l h i (entryOf w) t) (e : Entry) (e-is : e ≡ entryOf w) (s : Loss) (s-is : s ≡ yearLoss (head l) (row l) (cell l i) e t) where
-  pub step-loss : s ≡ cellLoss l t i w
-  step-loss = rw e-is at s-is
+-- a cell's own words w, which the step was lent: c is the cell and e the entry that it read
+module _ {l : List ℕ} {h : Head} {t : ℕ} (i : ℕ) (w : List ℕ) (g : Losing l h (cell l i) (entryOf w) t) (c : Cell) (c-is : c ≡ cell l i) (e : Entry) (e-is : e ≡ entryOf w) where
+  pub step-losing : Losing l h c e t
+  step-losing = rw (c-is, e-is) g
 
-  pub step-lost : (e .oxidised + s .oxidised) + (e .burned + s .burned) ≤ 20000
-  step-lost = rw (step-loss, e-is) (lost-then g)
+  -- s is the loss that it was told
+  module _ (s : Loss) (s-is : s ≡ yearLoss (head l) (row l) c e t) where
+    pub step-loss : s ≡ cellLoss l t i w
+    step-loss = rw (c-is, e-is) at s-is
 
-  -- two words stored over the last two of three
-  pub step-words : length w ≡ entryWords → (o b : ℕ) → o ≡ oxidisedWord (e .oxidised + s .oxidised) → b ≡ burnedWord (e .burned + s .burned) → set (set w 1 o) 2 b ≡ wordsAfter w (cellLoss l t i w)
-  unfolding wordsAfter
-  step-words three o b o-is b-is = rw (o-is, b-is, step-loss, e-is) (last-two w (oxidisedWord (entryOf w .oxidised + cellLoss l t i w .oxidised)) (burnedWord (entryOf w .burned + cellLoss l t i w .burned)) three)
+    pub step-lost : (e .oxidised + s .oxidised) + (e .burned + s .burned) ≤ 20000
+    step-lost = rw s-is (lost-then step-losing)
+
+    -- two words stored over the last two of three
+    pub step-words : length w ≡ entryWords → (o b : ℕ) → o ≡ oxidisedWord (e .oxidised + s .oxidised) → b ≡ burnedWord (e .burned + s .burned) → set (set w 1 o) 2 b ≡ wordsAfter w (cellLoss l t i w)
+    unfolding wordsAfter
+    step-words three o b o-is b-is = rw (o-is, b-is, step-loss, e-is) (last-two w (oxidisedWord (entryOf w .oxidised + cellLoss l t i w .oxidised)) (burnedWord (entryOf w .burned + cellLoss l t i w .burned)) three)
 
 -- every cell of a right book can be
-pub timely-losing : {l : List ℕ} {h : Head} {b : List ℕ} {t : ℕ} → Timely l h b t → (i : ℕ) → i < cells l → Losing l h i (entry b i) t
-timely-losing {l} {h} {b} {t} g i lt =
+pub timely-losing : {l : List ℕ} {h : Head} {b : List ℕ} {t : ℕ} → Timely l h b t → (i : ℕ) → i < cells l → Losing l h (cell l i) (entry b i) t
+timely-losing g i lt =
     let next = g .next in
+    let accepted = g .sound .fitted .accepted in
     record {
-      accepted = g .sound .fitted .accepted;
+      accepted = accepted;
       head-is = g .head-is;
-      there = lt;
+      cell-right = accepted .cell-right i lt;
       entry-right = g .sound .entry-right i lt;
       in-time = (omega arith, g .in-time);
     }
@@ -115,18 +117,20 @@ module _ {l : List ℕ} {h : Head} {b : List ℕ} {t : ℕ} (g : Timely l h b t)
   pub timely-room : (i : ℕ) → i < cells l → Room b i
   timely-room i lt = sound-room l b (g .sound) i lt
 
-  -- e the entry that was read, s the loss that was told: whether its kg line fits its word
-  module _ (i : ℕ) (e : Entry) (e-is : e ≡ entry b i) (s : Loss) (s-is : s ≡ yearLoss (head l) (row l) (cell l i) e t) where
-    told : s ≡ loss l b i
-    told = rw (e-is, g .next) at s-is
+-- ---- a right book before the horizon: no kg line is too large for its word
 
-    pub line-fine : s .kg ≤ mostNumber → fineLine l b i ≡ true
-    unfolding fineLine
-    line-fine le = le-leb _ _ (rw told at le)
+module _ (l b : List ℕ) (s : Sound l b) where
+  pub sound-fits : (i : ℕ) → i < cells l → loss l b i .kg ≤ mostNumber
+  sound-fits i lt =
+      let right = s .fitted .accepted in
+      omega (arith, year-kg-most (head l) (row l) (cell l i) (entry b i) (year b + 1) (right .head-right) (right .cell-right i lt) (right .row-right))
 
-    pub line-large : mostNumber < s .kg → fineLine l b i ≡ false
-    unfolding fineLine
-    line-large lt = lt-leb _ _ (rw told at lt)
+  -- so number 9 is the only one
+  pub year-fine : year b < horizon l → accepted 0 ≡ yearChecked l b
+  unfolding yearChecked fineLine
+  year-fine ahead =
+      every-is lineTooLarge (fineLine l b) 0 (cells l) (accepted 0) zero-le (λ i p lt. le-leb (loss l b i .kg) mostNumber (sound-fits i lt))
+      ∙ need-is (ltb (year b) (horizon l)) horizonReached 0 _ (lt-ltb (year b) (horizon l) ahead)
 
 -- ---- a closing that is accepted, and one that can be
 module _ (l b : List ℕ) (room : ℕ) where
@@ -149,25 +153,13 @@ module _ (l b : List ℕ) (room : ℕ) where
   pub closable-done : (v : Outcome) → outcome v ≡ closeAnswer l b room → v ≡ Done → Closable l b room
   closable-done v e d = closable (ap (λ (a : Answer). a .done) (sym e ∙ ap outcome d))
 
-  -- an accepted book before the horizon, with room for its lines: no kg line is too large for its word
+  -- an accepted book before the horizon, with room for its lines
   pub closable-before : lineWords * cells l ≤ room → year b < horizon l → admittedOnly l b .done ≡ true → Closable l b room
   closable-before enough ahead a =
       let s = sound l b 0 0 a in
-      let right = s .fitted .accepted in
-      record {
-        admits = admitted-with l b 0 0 lineWords room enough a;
-        sound = s;
-        ahead = ahead;
-        room = enough;
-        fits = λ i lt. omega (arith, year-kg-most (head l) (row l) (cell l i) (entry b i) (year b + 1) (right .head-right) (right .cell-right i lt) (right .row-right));
-      }
+      record { admits = admitted-with l b 0 0 lineWords room enough a; sound = s; ahead = ahead; room = enough; fits = sound-fits l b s }
 
   -- what can be closed is
   pub closes : Closable l b room → closeAnswer l b room .done ≡ true
-  unfolding closeAnswer yearChecked fineLine
-  closes k =
-      sym
-      (ap (λ (a : Answer). a .done)
-      (every-is lineTooLarge (fineLine l b) 0 (cells l) (accepted 0) zero-le (λ i p lt. le-leb (loss l b i .kg) mostNumber (k .fits i lt))
-      ∙ need-is (ltb (year b) (horizon l)) horizonReached 0 _ (lt-ltb (year b) (horizon l) (k .ahead))
-      ∙ after-is _ (admitted l b lineWords room) (k .admits)))
+  unfolding closeAnswer
+  closes k = sym (ap (λ (a : Answer). a .done) (year-fine l b (k .sound) (k .ahead) ∙ after-is _ (admitted l b lineWords room) (k .admits)))

@@ -9,7 +9,7 @@ use borrow.Rule.Slice.PartMut.{putMid}
 use Rattle.words.specs.Blocks.{filled}
 use Rattle.words.proofs.Blocks.{filled-none, filled-part, filled-next, length-filled}
 use Rattle.fields.specs.declared.Head.{Head}
-use Rattle.listing.specs.Layout.{head, cells, horizon}
+use Rattle.listing.specs.Layout.{head, cells, horizon, cell}
 use Rattle.year.specs.declared.Loss.{Loss}
 use Rattle.book.specs.Layout.{bookHead, entryWords, lineWords, entryAt, year, entryOf, wordsOf, linesOf}
 use Rattle.book.specs.Sound.{Sound}
@@ -59,8 +59,8 @@ module _ {l b : List ℕ} (d : List ℕ) (k : Closable l b (length d)) where
     lent-is : lent ≡ wordsOf b i
     lent-is = filled-part entryWords b bookHead (closedWords l b) (three-words l b) (omega (arith, room)) i (entryAt i) (r .book-is) refl
 
-    pub turn-losing : (length lent ≡ entryWords) × Losing l h i (entryOf lent) t
-    turn-losing = rw lent-is (words-sized b i (timely-room g i lt .in-book), timely-losing g i lt)
+    pub turn-losing : (length lent ≡ entryWords) × (i < cells l) × Losing l h (cell l i) (entryOf lent) t
+    turn-losing = rw lent-is (words-sized b i (timely-room g i lt .in-book), lt, timely-losing g i lt)
 
     turn-loss : cellLoss l t i lent ≡ loss l b i
     turn-loss = rw (lent-is, g .next)

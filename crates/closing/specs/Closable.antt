@@ -3,8 +3,10 @@ use Prim.Native.Nat.{ℕ, _+_, _*_, _≤_, _<_}
 use mathlib.Core.Path.{_≡_}
 use mathlib.Core.Bool.{true}
 use mathlib.Core.List.{List}
+use Rattle.fields.specs.Right.{CellRight}
 use Rattle.fields.specs.declared.Head.{Head}
-use Rattle.listing.specs.Layout.{head, cells, horizon, cell}
+use Rattle.fields.specs.declared.Cell.{Cell}
+use Rattle.listing.specs.Layout.{head, cells, strata, horizon}
 use Rattle.listing.specs.Accepted.{Accepted}
 use Rattle.year.specs.declared.Entry.{Entry}
 use Rattle.book.specs.Layout.{lineWords, year}
@@ -12,12 +14,12 @@ use Rattle.book.specs.Check.{admitted}
 use Rattle.book.specs.Sound.{EntryRight, Sound}
 use Rattle.closing.specs.Closing.{loss, mostNumber}
 
--- cell i with entry e can be worked out for year t; h is the listing's head
-pub record Losing (l : List ℕ) (h : Head) (i : ℕ) (e : Entry) (t : ℕ) : Type 0 where
+-- a cell c with entry e can be worked out for year t; h is the listing's head
+pub record Losing (l : List ℕ) (h : Head) (c : Cell) (e : Entry) (t : ℕ) : Type 0 where
   pub accepted : Accepted l
   pub head-is : h ≡ head l
-  pub there : i < cells l
-  pub entry-right : EntryRight (head l) (cell l i) e
+  pub cell-right : CellRight (strata l) (horizon l) c
+  pub entry-right : EntryRight (head l) c e
   pub in-time : (1 ≤ t) × (t ≤ horizon l)
 
 -- an accepted book, and t the year after its current one

@@ -2,20 +2,19 @@
 ghost use mathlib.Core.Path.{_≡_};
 ghost use Prim.Native.Nat.{_+_, _<_, _≤_};
 ghost use lib.ListN.{length};
-ghost use Rattle.words.specs.Search.{firstWrong};
 ghost use Rattle.words.specs.Answers.{outcome};
 ghost use Rattle.words.specs.Blocks.{filled};
 ghost use Rattle.listing.specs.Layout.{head, cells, row, cell};
 ghost use Rattle.year.specs.Year.{yearLoss};
 ghost use Rattle.book.specs.Layout.{bookHead, entryWords, lineWords, entryOf, linesOf};
 ghost use Rattle.book.specs.Sound.{Sound};
-ghost use Rattle.closing.specs.Closing.{cellLoss, wordsAfter, closedWords, bookAfter, linesAfter, mostNumber, fineLine, yearChecked, closeAnswer};
+ghost use Rattle.closing.specs.Closing.{cellLoss, wordsAfter, closedWords, bookAfter, linesAfter, mostNumber, yearChecked, closeAnswer};
 ghost use Rattle.closing.specs.Closable.{Losing, Timely, Closable};
 use book::BOOK_HEAD;
 use book::ENTRY_WORDS;
+use fields::Cell;
 use fields::Head;
 use words::HORIZON_REACHED;
-use words::LINE_TOO_LARGE;
 use words::Outcome;
 use words::refuse;
 use words::word;
@@ -25,15 +24,11 @@ use year::Loss;
 // The line words of a cell.
 const LINE_WORDS: usize = 3;
 
-// The greatest number that a word's bits 27 to 0 hold.
-const MOST_NUMBER: u32 = 268435455;
-
-// What cell `i` loses in `year`, by its own entry and the row of its own stratum and age.
-fn cell_loss(listing: &[u32], h: Head, i: usize, e: Entry, year: u32) -> Loss
-    requires { ⌜ Losing (now listing) h i e year ⌝ }
-    ensures { λ s. ⌜ s ≡ yearLoss (head (now (listing .entry))) (row (now (listing .entry))) (cell (now (listing .entry)) i) e year ⌝ }
+// What a cell loses in `year`, by its own entry and the row of its own stratum and age.
+pub fn cell_loss(listing: &[u32], h: Head, c: Cell, e: Entry, year: u32) -> Loss
+    requires { ⌜ Losing (now listing) h c e year ⌝ }
+    ensures { λ s. ⌜ s ≡ yearLoss (head (now (listing .entry))) (row (now (listing .entry))) c e year ⌝ }
 {
-    let c = listing::cell(listing, i);
     if year::rests(h, c, e, year) {
         return Loss {
             oxidised: 0,
@@ -46,37 +41,15 @@ fn cell_loss(listing: &[u32], h: Head, i: usize, e: Entry, year: u32) -> Loss
     year::loss_of(h, c, r, e)
 }
 
-// The first cell whose kg line is too large for its word; where there is none, the count of cells.
-fn first_large(listing: &[u32], h: Head, book: &[u32], year: u32) -> usize
-    requires { ⌜ Timely (now listing) h (now book) year ⌝ }
-    ensures { λ r. ⌜ r ≡ firstWrong (fineLine (now (listing .entry)) (now (book .entry))) 0 (cells (now (listing .entry))) ⌝ }
-{
-    let cells = h.cells as usize;
-    let mut i: usize = 0;
-    while i < cells {
-        let e = book::entry(book, i);
-        let s = cell_loss(listing, h, i, e, year);
-        if MOST_NUMBER < s.kg {
-            break;
-        }
-        i += 1;
-    }
-    i
-}
-
-// Numbers 9 and 14, for a right book.
+// Number 9, for a right book. Number 14 comes after it, and is proved not to arise: no kg line is
+// above 50,740,800.
 fn check_year(listing: &[u32], book: &[u32]) -> Outcome
     requires { ⌜ Sound (now listing) (now book) ⌝ }
     ensures { λ r. ⌜ outcome r ≡ yearChecked (now (listing .entry)) (now (book .entry)) ⌝ }
 {
-    let h = listing::head(listing);
-    let year = book::year(book);
-    if h.horizon <= year {
+    let horizon = listing::head(listing).horizon;
+    if horizon <= book::year(book) {
         return refuse(HORIZON_REACHED, 0);
-    }
-    let cell = first_large(listing, h, book, year + 1);
-    if cell < h.cells as usize {
-        return refuse(LINE_TOO_LARGE, cell);
     }
     Outcome::Done
 }
@@ -92,15 +65,16 @@ pub fn may_close(listing: &[u32], book: &[u32], room: usize) -> Outcome
 }
 
 // Closes cell `i`, whose own words are lent: adds the year's mm to its mm to date.
-fn close_cell(cell: &mut [u32], listing: &[u32], h: Head, i: usize, year: u32) -> Loss
-    requires { ⌜ (length (now cell) ≡ entryWords) × Losing (now listing) h i (entryOf (now cell)) year ⌝ }
-    ensures { λ s. ⌜ s ≡ cellLoss (now (listing .entry)) year i (now (cell .entry)) ⌝ }
-    ensures { λ _. ⌜ now (cell .exit) ≡ wordsAfter (now (cell .entry)) (cellLoss (now (listing .entry)) year i (now (cell .entry))) ⌝ }
+fn close_cell(entry: &mut [u32], listing: &[u32], h: Head, i: usize, year: u32) -> Loss
+    requires { ⌜ (length (now entry) ≡ entryWords) × (i < cells (now listing)) × Losing (now listing) h (cell (now listing) i) (entryOf (now entry)) year ⌝ }
+    ensures { λ s. ⌜ s ≡ cellLoss (now (listing .entry)) year i (now (entry .entry)) ⌝ }
+    ensures { λ _. ⌜ now (entry .exit) ≡ wordsAfter (now (entry .entry)) (cellLoss (now (listing .entry)) year i (now (entry .entry))) ⌝ }
 {
-    let e = book::entry_of(&cell[..]);
-    let s = cell_loss(listing, h, i, e, year);
-    cell[1] = word(11, e.oxidised + s.oxidised);
-    cell[2] = word(12, e.burned + s.burned);
+    let e = book::entry_of(&entry[..]);
+    let c = listing::cell(listing, i);
+    let s = cell_loss(listing, h, c, e, year);
+    entry[1] = word(11, e.oxidised + s.oxidised);
+    entry[2] = word(12, e.burned + s.burned);
     s
 }
 

@@ -6,27 +6,27 @@ use Rattle.closing.proofs.cell_loss.Statement.{statement}
 use Rattle.closing.proofs.cell_loss.Tie as tie
 
 returns : tie.Need-returns
-returns c = asleep-loss (c .before .before .before .before .pre) _ (c .before .before .cell .ensures) _ (c .before .rests .ensures) (c .if1 .taken)
+returns c = asleep-loss (c .before .before .before .pre) _ (c .before .rests .ensures) (c .if1 .taken)
 
 sub-age : tie.Need-sub-age
-sub-age c = awake-age (c .before .before .before .before .before .pre) _ (c .before .before .before .cell .ensures) _ (c .before .before .rests .ensures) (c .before .if1 .left) .0
+sub-age c = awake-age (c .before .before .before .before .pre) _ (c .before .before .rests .ensures) (c .before .if1 .left) .0
 
 row-requires : tie.Need-row-requires
 row-requires c κs =
-    let s = c .before .before .before .before .before in
-    let a = awake-age (s .pre) _ (c .before .before .before .cell .ensures) _ (c .before .before .rests .ensures) (c .before .if1 .left) in
+    let s = c .before .before .before .before in
+    let a = awake-age (s .pre) _ (c .before .before .rests .ensures) (c .before .if1 .left) in
     let time = s .pre .in-time in
     (s .pre .accepted, a .1, omega arith, omega arith)
 
 loss-of-requires : tie.Need-loss-of-requires
 loss-of-requires c κs =
-    let s = c .before .before .before .before .before .before in
-    awake-fit (s .pre) _ (c .before .before .before .before .cell .ensures) _ (c .before .before .before .rests .ensures) (c .before .before .if1 .left) _ (c .row .ensures)
+    let s = c .before .before .before .before .before in
+    awake-fit (s .pre) _ (c .before .before .before .rests .ensures) (c .before .before .if1 .left) _ (c .row .ensures)
 
 returns-2 : tie.Need-returns-2
 returns-2 c =
-    let s = c .before .before .before .before .before .before .before in
-    awake-loss (s .pre) _ (c .before .before .before .before .before .cell .ensures) _ (c .before .before .before .before .rests .ensures) (c .before .before .before .if1 .left) _ (c .before .row .ensures) _ (c .loss-of .ensures)
+    let s = c .before .before .before .before .before .before in
+    awake-loss (s .pre) _ (c .before .before .before .before .rests .ensures) (c .before .before .before .if1 .left) _ (c .before .row .ensures) _ (c .loss-of .ensures)
 
 pub cell-loss-spec : {M : Type 1} → statement M
-cell-loss-spec = tie.close (tie.spec (λ c κs. search needs) (λ c κs. search needs) returns sub-age (λ c. search needs) row-requires loss-of-requires returns-2)
+cell-loss-spec = tie.close (tie.spec (λ c κs. search needs) returns sub-age (λ c. search needs) row-requires loss-of-requires returns-2)

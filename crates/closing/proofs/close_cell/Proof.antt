@@ -2,17 +2,19 @@
 use borrow.Author.Needs.{needs}
 use native.Mathlib.Omega.{arith}
 use Prim.Native.Nat.{_+_, _≤_}
-use Rattle.closing.proofs.Closable.{step-loss, step-lost, step-words}
+use Rattle.closing.proofs.Closable.{step-losing, step-loss, step-lost, step-words}
 use Rattle.closing.proofs.close_cell.Statement.{statement}
 use Rattle.closing.proofs.close_cell.Tie as tie
 
 cell-loss-requires : tie.Need-cell-loss-requires
-cell-loss-requires c κs = rw (c .entry-of .ensures) (c .before .before .before .before .pre .1)
-
-lost : (c : tie.After-cell-loss) → (c .before .entry-of .result .oxidised + c .cell-loss .result .oxidised) + (c .before .entry-of .result .burned + c .cell-loss .result .burned) ≤ 20000
-lost c =
+cell-loss-requires c κs =
     let s = c .before .before .before .before .before in
-    step-lost (s .args .cell .now) (s .pre .1) _ (c .before .entry-of .ensures) _ (c .cell-loss .ensures)
+    step-losing _ (s .args .entry .now) (s .pre .2) _ (c .cell .ensures) _ (c .before .entry-of .ensures)
+
+lost : (c : tie.After-cell-loss) → (c .before .before .entry-of .result .oxidised + c .cell-loss .result .oxidised) + (c .before .before .entry-of .result .burned + c .cell-loss .result .burned) ≤ 20000
+lost c =
+    let s = c .before .before .before .before .before .before in
+    step-lost _ (s .args .entry .now) (s .pre .2) _ (c .before .cell .ensures) _ (c .before .before .entry-of .ensures) _ (c .cell-loss .ensures)
 
 add-word : tie.Need-add-word
 add-word c = omega (arith, lost (c .before .before))
@@ -29,15 +31,17 @@ word-requires-2 c κs = (omega arith, omega (arith, lost (c .before .before .bef
 returns : tie.Need-returns
 returns c =
     let x = c .before .before .before .before .before .before in
-    let s = x .before .before .before .before .before in
-    let e = x .before .entry-of .ensures in
+    let s = x .before .before .before .before .before .before in
+    let k = x .before .cell .ensures in
+    let e = x .before .before .entry-of .ensures in
     let l = x .cell-loss .ensures in
-    (step-loss (s .args .cell .now) (s .pre .1) _ e _ l, step-words (s .args .cell .now) (s .pre .1) _ e _ l (s .pre .0) _ _ (c .before .before .before .word .ensures) (c .word2 .ensures))
+    (step-loss _ (s .args .entry .now) (s .pre .2) _ k _ e _ l, step-words _ (s .args .entry .now) (s .pre .2) _ k _ e _ l (s .pre .0) _ _ (c .before .before .before .word .ensures) (c .word2 .ensures))
 
 pub close-cell-spec : {M : Type 1} → statement M
 close-cell-spec =
     tie.close
     (tie.spec
+    (λ c κs. search needs)
     (λ c κs. search needs)
     cell-loss-requires
     add-word
