@@ -58,8 +58,8 @@ extern "C" {
 /* What a call answers. `value` is described at each call; it is 0 where nothing is said of it. */
 typedef struct {
     uint32_t number;
-    size_t place;
     uint32_t value;
+    size_t place;
 } peat_answer;
 
 /* A cell's statement: depths in mm, emission to date in kg CO2e, plan year (0: never converted) and the mark. */

@@ -11,8 +11,8 @@ pub mod site;
 #[derive(Clone, Copy, Debug, Default, PartialEq, Eq)]
 pub struct Answer {
     pub number: u32,
-    pub place: usize,
     pub value: u32,
+    pub place: usize,
 }
 
 /// What a statement answers; every figure is 0 where it is refused.

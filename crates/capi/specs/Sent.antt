@@ -14,7 +14,7 @@ use Rattle.capi.specs.declared.Statement.{Statement}
 
 -- number, place and value of an answer
 abbrev pub sent : Answer → Reply
-sent a = record { number = a .number; place = a .place; value = a .value }
+sent a = record { number = a .number; value = a .value; place = a .place }
 
 -- number and place of a statement, and the figures of its account
 abbrev pub told : Telling → Statement

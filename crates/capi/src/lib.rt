@@ -17,12 +17,12 @@ use words::Outcome;
 use words::Refusal;
 
 // The answer of a call: number 0 where it is accepted, and otherwise the refusal's number and place,
-// with the value 0.
+// with the value 0. In this order it is returned in two registers.
 #[repr(C)]
 pub struct Reply {
     pub number: u32,
-    pub place: usize,
     pub value: u32,
+    pub place: usize,
 }
 
 // The answer of a statement: number and place as above, and what is told of the cell.
@@ -44,8 +44,8 @@ fn accept(value: u32) -> Reply
 {
     Reply {
         number: 0,
-        place: 0,
         value,
+        place: 0,
     }
 }
 
@@ -54,8 +54,8 @@ fn refuse(why: Refusal) -> Reply
 {
     Reply {
         number: why.number,
-        place: why.place,
         value: 0,
+        place: why.place,
     }
 }
 
@@ -187,7 +187,7 @@ pub extern "C" fn peat_forecast(listing: &[u32], book: &mut [u32], output: &mut 
 pub extern "C" fn peat_core(metres: f32) -> Reply
     ensures { λ r. ⌜ r ≡ sent (depth (Core metres)) ⌝ }
 {
-    of_measured(reading::depth(Reading::Core(metres)))
+    of_measured(reading::core(metres))
 }
 
 // The depth between a pair of levels.
@@ -195,7 +195,7 @@ pub extern "C" fn peat_core(metres: f32) -> Reply
 pub extern "C" fn peat_levels(surface: f32, base: f32) -> Reply
     ensures { λ r. ⌜ r ≡ sent (depth (Levels surface base)) ⌝ }
 {
-    of_measured(reading::depth(Reading::Levels(surface, base)))
+    of_measured(reading::levels(surface, base))
 }
 
 // The answer to a reading that is missing.

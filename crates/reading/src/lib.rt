@@ -39,8 +39,9 @@ pub fn depth(reading: Reading) -> Measured
     }
 }
 
-// A core is a level as well: its millimetres too are those above -100,000, less 100,000.
-fn core(x: f32) -> Measured
+// The depth of a core. It is a level as well: its millimetres too are those above -100,000, less
+// 100,000.
+pub fn core(x: f32) -> Measured
     ensures { λ r. ⌜ measured r ≡ core x ⌝ }
 {
     if !finite(x) {
@@ -52,8 +53,9 @@ fn core(x: f32) -> Measured
     Measured::Millimetres(mm_above_lowest(x) - 100_000)
 }
 
-// A number that is not finite is refused before a level that is out of range, whichever it is.
-fn levels(surface: f32, base: f32) -> Measured
+// The depth between a pair of levels. A number that is not finite is refused before a level that is
+// out of range, whichever it is.
+pub fn levels(surface: f32, base: f32) -> Measured
     ensures { λ r. ⌜ measured r ≡ levels surface base ⌝ }
 {
     if !finite(surface) {
