@@ -60,7 +60,7 @@ entry-all horizon most turn before w p o b lt =
 
 module _ (l b : List ℕ) where
   -- the word of cell i whose turn is j, at place k with place p before it
-  right-entry : (i j k p : ℕ) → j < entryWords → k ≡ entryAt i + j → p ≡ k - 1 →
+  pub right-entry : (i j k p : ℕ) → j < entryWords → k ≡ entryAt i + j → p ≡ k - 1 →
       bookRight l b k ≡ isEntryWord (horizon l) (mostLoss (head l) (cell l i)) j (getD b p 0) (getD b k 0)
   unfolding bookRight
   right-entry i j k p h here before =

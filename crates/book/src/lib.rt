@@ -1,6 +1,7 @@
 // The book: where its words stand and what they say, its check, and the refusals with which every
 // call begins.
 ghost use mathlib.Core.Path.{_≡_};
+ghost use mathlib.Core.Bool.{true};
 ghost use Prim.Native.Nat.{_+_, _*_, _^_, _<_, _≤_};
 ghost use lib.ListN.{length, set};
 ghost use Rattle.words.specs.Bits.{wordOf};
@@ -71,11 +72,33 @@ fn word_right(listing: &[u32], h: Head, book: &[u32], k: usize) -> bool
     is_burned_word(book[k - 1], book[k], year::most_loss(h, c))
 }
 
+// Whether every word of a book is right: without a branch for each word, since most books are.
+fn book_clean(listing: &[u32], h: Head, book: &[u32], end: usize) -> bool
+    requires { ⌜ Fitted (now listing) (now book) × (h ≡ head (now listing)) × (end ≡ bookSize (cells (now listing))) ⌝ }
+    ensures { λ r. ⌜ (r ≡ true → end ≡ firstWrong (bookRight (now (listing .entry)) (now (book .entry))) 0 end) ⌝ }
+{
+    let cells = h.cells as usize;
+    let mut clean = is_year_word(book[YEAR_AT], h.horizon) & words::is_kind(book[ISSUED_AT], 9);
+    let mut i: usize = 0;
+    while i < cells {
+        let at = BOOK_HEAD + ENTRY_WORDS * i;
+        let most = year::most_loss(h, listing::cell(listing, i));
+        clean = clean & is_plan_word(book[at], h.horizon);
+        clean = clean & words::is_kind(book[at + 1], 11);
+        clean = clean & is_burned_word(book[at + 1], book[at + 2], most);
+        i += 1;
+    }
+    clean
+}
+
 // The first word of a book that is not right; where there is none, `end`.
 fn first_wrong(listing: &[u32], h: Head, book: &[u32], end: usize) -> usize
     requires { ⌜ Fitted (now listing) (now book) × (h ≡ head (now listing)) × (end ≡ bookSize (cells (now listing))) ⌝ }
     ensures { λ r. ⌜ r ≡ firstWrong (bookRight (now (listing .entry)) (now (book .entry))) 0 end ⌝ }
 {
+    if book_clean(listing, h, book, end) {
+        return end;
+    }
     let mut at: usize = 0;
     while at < end {
         if !word_right(listing, h, book, at) {

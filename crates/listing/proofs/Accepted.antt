@@ -43,13 +43,13 @@ later-by l h s v e f g = cc
 
 -- ---- the cells
 
-turn-depth : (strata horizon turn w : ℕ) → turn ≡ 0 → isCellWord strata horizon turn w ≡ true → isDepthWord strata horizon w ≡ true
+pub turn-depth : (strata horizon turn w : ℕ) → turn ≡ 0 → isDepthWord strata horizon w ≡ isCellWord strata horizon turn w
 unfolding isCellWord
-turn-depth strata horizon turn w e q = rw (eq-eqb turn 0 e) at q
+turn-depth strata horizon turn w e = rw (eq-eqb turn 0 e)
 
-turn-area : (strata horizon turn w : ℕ) → turn ≡ 1 → isCellWord strata horizon turn w ≡ true → isAreaWord w ≡ true
+pub turn-area : (strata horizon turn w : ℕ) → turn ≡ 1 → isAreaWord w ≡ isCellWord strata horizon turn w
 unfolding isCellWord
-turn-area strata horizon turn w e q = rw (ne-eqb turn 0 (λ z. omega arith)) at q
+turn-area strata horizon turn w e = rw (ne-eqb turn 0 (λ z. omega arith))
 
 -- ---- the terms
 
@@ -101,7 +101,7 @@ accepted l h =
       parts = parts;
       long = long;
       row-right = λ stratum age. row-right (getD l (rowAt l stratum age) 0);
-      cell-right = λ i lt. cell-right (strata l) (horizon l) _ _ (turn-depth _ _ _ _ (omega arith) (h₆ .0 (cellAt l i) (omega arith) (omega arith))) (turn-area _ _ _ _ (omega arith) (h₆ .0 (cellAt l i + 1) (omega arith) (omega arith)));
+      cell-right = λ i lt. cell-right (strata l) (horizon l) _ _ (turn-depth _ _ _ _ (omega arith) ∙ h₆ .0 (cellAt l i) (omega arith) (omega arith)) (turn-area _ _ _ _ (omega arith) ∙ h₆ .0 (cellAt l i + 1) (omega arith) (omega arith));
       term-right = term;
       rising = h₈ .0;
       few = few-terms l (horizon l) (starts l .terms) term (h₈ .0);

@@ -1,5 +1,6 @@
 // A project's listing: whether it is right, and where its words stand.
 ghost use mathlib.Core.Path.{_≡_};
+ghost use mathlib.Core.Bool.{true};
 ghost use Prim.Native.Nat.{_+_, _*_, _<_, _≤_};
 ghost use lib.ListN.{length};
 ghost use Rattle.words.specs.Search.{firstWrong};
@@ -39,11 +40,28 @@ fn is_cell_word(w: u32, strata: u32, horizon: u32, turn: usize) -> bool
     fields::is_area_word(w)
 }
 
+// Whether every word of the tables is right: without a branch for each word, since most listings are.
+fn tables_clean(listing: &[u32], start: usize, end: usize) -> bool
+    requires { ⌜ (start ≤ end) × (end ≤ length (now listing)) ⌝ }
+    ensures { λ r. ⌜ (r ≡ true → end ≡ firstWrong (tableRight (now (listing .entry))) start end) ⌝ }
+{
+    let mut clean = true;
+    let mut at = start;
+    while at < end {
+        clean = clean & fields::is_table_word(listing[at]);
+        at += 1;
+    }
+    clean
+}
+
 // The first word of the tables that is not right; where there is none, `end`.
 fn first_table(listing: &[u32], strata: usize, horizon: usize, start: usize, end: usize) -> usize
     requires { ⌜ (end ≡ start + strata * horizon) × (end ≤ length (now listing)) ⌝ }
     ensures { λ r. ⌜ r ≡ firstWrong (tableRight (now (listing .entry))) start end ⌝ }
 {
+    if tables_clean(listing, start, end) {
+        return end;
+    }
     let mut at = start;
     let mut stratum: usize = 0;
     'strata: while stratum < strata {
@@ -60,11 +78,29 @@ fn first_table(listing: &[u32], strata: usize, horizon: usize, start: usize, end
     at
 }
 
+// Whether every word of the cells is right, with a cell's two words in a turn and none left over.
+fn cells_clean(listing: &[u32], strata: u32, horizon: u32, start: usize, end: usize) -> bool
+    requires { ⌜ (start ≤ end) × (end ≤ length (now listing)) ⌝ }
+    ensures { λ r. ⌜ (r ≡ true → end ≡ firstWrong (cellRight (now (listing .entry)) strata horizon start) start end) ⌝ }
+{
+    let mut clean = true;
+    let mut at = start;
+    while at + 1 < end {
+        clean = clean & fields::is_depth_word(listing[at], strata, horizon);
+        clean = clean & fields::is_area_word(listing[at + 1]);
+        at += CELL_WORDS;
+    }
+    clean & (at == end)
+}
+
 // The first word of the cells that is not right; where there is none, `end`.
 fn first_cell(listing: &[u32], strata: u32, horizon: u32, start: usize, end: usize) -> usize
     requires { ⌜ (start ≤ end) × (end ≤ length (now listing)) ⌝ }
     ensures { λ r. ⌜ r ≡ firstWrong (cellRight (now (listing .entry)) strata horizon start) start end ⌝ }
 {
+    if cells_clean(listing, strata, horizon, start, end) {
+        return end;
+    }
     let mut at = start;
     while at < end {
         if !is_cell_word(listing[at], strata, horizon, (at - start) % CELL_WORDS) {
@@ -75,11 +111,28 @@ fn first_cell(listing: &[u32], strata: u32, horizon: u32, start: usize, end: usi
     at
 }
 
+// Whether every term is right.
+fn terms_clean(listing: &[u32], horizon: u32, start: usize) -> bool
+    requires { ⌜ start ≤ length (now listing) ⌝ }
+    ensures { λ r. ⌜ (r ≡ true → length (now (listing .entry)) ≡ firstWrong (termRight (now (listing .entry)) horizon) start (length (now (listing .entry)))) ⌝ }
+{
+    let mut clean = true;
+    let mut at = start;
+    while at < listing.len() {
+        clean = clean & fields::is_term_word(listing[at], horizon);
+        at += 1;
+    }
+    clean
+}
+
 // The first term that is not right; where there is none, the length.
 fn first_term(listing: &[u32], horizon: u32, start: usize) -> usize
     requires { ⌜ start ≤ length (now listing) ⌝ }
     ensures { λ r. ⌜ r ≡ firstWrong (termRight (now (listing .entry)) horizon) start (length (now (listing .entry))) ⌝ }
 {
+    if terms_clean(listing, horizon, start) {
+        return listing.len();
+    }
     let mut at = start;
     while at < listing.len() {
         if !fields::is_term_word(listing[at], horizon) {
@@ -90,12 +143,29 @@ fn first_term(listing: &[u32], horizon: u32, start: usize) -> usize
     at
 }
 
+// Whether there are terms and each is above the one before.
+fn terms_rise(listing: &[u32], start: usize) -> bool
+    requires { ⌜ start ≤ length (now listing) ⌝ }
+    ensures { λ r. ⌜ (r ≡ true → length (now (listing .entry)) ≡ firstWrong (aboveRight (now (listing .entry))) (start + 1) (length (now (listing .entry)))) ⌝ }
+{
+    let mut clean = true;
+    let mut at = start + 1;
+    while at < listing.len() {
+        clean = clean & fields::is_above(listing[at - 1], listing[at]);
+        at += 1;
+    }
+    clean & (at == listing.len())
+}
+
 // The first term that is not above the one before; where there is none, the length, or one more
 // where there is no term.
 fn first_not_above(listing: &[u32], start: usize) -> usize
     requires { ⌜ start ≤ length (now listing) ⌝ }
     ensures { λ r. ⌜ r ≡ firstWrong (aboveRight (now (listing .entry))) (start + 1) (length (now (listing .entry))) ⌝ }
 {
+    if terms_rise(listing, start) {
+        return listing.len();
+    }
     let mut at = start + 1;
     while at < listing.len() {
         if !fields::is_above(listing[at - 1], listing[at]) {

@@ -1,4 +1,4 @@
--- `book::first_wrong` meets its contract: the search has come to `at`. Assumes nothing.
+-- `book::first_wrong` meets its contract: a pass finds all right, or else the search has come to `at`. Assumes nothing.
 use Prim.Native.Nat.{_-_, _≤_}
 use Rattle.words.proofs.Steps.{Passed, steps}
 use Rattle.book.specs.Check.{bookRight}
@@ -17,6 +17,8 @@ first-wrong-spec =
     (tie.spec
     Inv-loop
     μ-loop
+    (λ c κs. search steps)
+    (λ c. c .before .book-clean .ensures (c .if1 .taken))
     (λ c. search steps)
     (λ c κs. search steps)
     (λ c. search steps)

@@ -1,4 +1,4 @@
--- `listing::first_cell` meets its contract: the search has come to `at`. Assumes nothing.
+-- `listing::first_cell` meets its contract: a pass finds all right, or else the search has come to `at`. Assumes nothing.
 use Prim.Native.Nat.{_-_, _≤_}
 use Rattle.listing.specs.Check.{cellRight}
 use Rattle.words.proofs.Steps.{Passed, steps}
@@ -17,6 +17,8 @@ first-cell-spec =
     (tie.spec
     Inv-loop
     μ-loop
+    (λ c κs. search steps)
+    (λ c. c .before .cells-clean .ensures (c .if1 .taken))
     (λ c. search steps)
     (λ c. search steps)
     (λ c. search steps)

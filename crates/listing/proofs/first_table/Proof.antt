@@ -1,5 +1,5 @@
--- `listing::first_table` meets its contract: both loops' invariants have `Passed`, that the search has come to `at`; the rest of them
--- says where `at` is. Assumes nothing.
+-- `listing::first_table` meets its contract: a pass finds all right, or else both loops' invariants have `Passed`, that the search has
+-- come to `at`; the rest of them says where `at` is. Assumes nothing.
 use mathlib.Core.Path.{_≡_}
 use Prim.Native.Nat.{_+_, _-_, _*_, _≤_}
 use native.Mathlib.Nat.{mul-le-mul-right}
@@ -23,13 +23,13 @@ abbrev μ-strata : tie.MeasureT-strata
 μ-strata listing strata horizon start end at₀ stratum₀ at stratum = strata - stratum
 
 loop-again : tie.Need-loop-again Inv-loop μ-loop Inv-strata μ-strata
-loop-again c = (search steps, search steps, search steps, search steps, passed-on _ (search steps) (search steps) (c .before .is-table-word .ensures) (c .if1 .left))
-
-returns : tie.Need-returns Inv-loop μ-loop Inv-strata μ-strata
-returns c = passed-all (search steps) (omega (arith, mul-le-mul-right (c .before .before .before .args .horizon) (c .strata-test .left)))
+loop-again c = (search steps, search steps, search steps, search steps, passed-on _ (search steps) (search steps) (c .before .is-table-word .ensures) (c .if2 .left))
 
 returns-2 : tie.Need-returns-2 Inv-loop μ-loop Inv-strata μ-strata
-returns-2 c = passed-bad _ (search steps) (search steps) (c .before .is-table-word .ensures) (c .if1 .taken)
+returns-2 c = passed-all (search steps) (omega (arith, mul-le-mul-right (c .before .before .before .before .before .args .horizon) (c .strata-test .left)))
+
+returns-3 : tie.Need-returns-3 Inv-loop μ-loop Inv-strata μ-strata
+returns-3 c = passed-bad _ (search steps) (search steps) (c .before .is-table-word .ensures) (c .if2 .taken)
 
 pub first-table-spec : {M : Type 1} → statement M
 first-table-spec =
@@ -39,6 +39,8 @@ first-table-spec =
     μ-loop
     Inv-strata
     μ-strata
+    (λ c κs. search steps)
+    (λ c. c .before .tables-clean .ensures (c .if1 .taken))
     (λ c. search steps)
     (λ c. search (steps, row-within))
     (λ c. search steps)
@@ -51,5 +53,5 @@ first-table-spec =
     (λ c. search steps)
     (λ c. search steps)
     (λ c. search steps)
-    returns
-    returns-2)
+    returns-2
+    returns-3)
