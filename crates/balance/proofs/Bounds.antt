@@ -24,7 +24,7 @@ use Rattle.book.proofs.Sound.{entry-fit}
 use Rattle.balance.specs.Balance.{overCells, peatTonnes, mostPeat, toDate, withheld, balanceOf, due, kgTo, balanceIn, tonnesDue}
 
 -- ---- peat: each cell has its most
-cells-most : (f : ℕ → ℕ) (m n : ℕ) → ((i : ℕ) → i < n → f i ≤ m) → overCells f n ≤ m * n
+pub cells-most : (f : ℕ → ℕ) (m n : ℕ) → ((i : ℕ) → i < n → f i ≤ m) → overCells f n ≤ m * n
 unfolding overCells
 cells-most f m zero h = omega arith
 cells-most f m (suc n) h = omega (arith, cells-most f m n (λ i p. h i (omega arith)), h n (omega arith))

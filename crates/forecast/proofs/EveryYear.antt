@@ -14,20 +14,18 @@ use Rattle.words.proofs.Answers.{need-says, after-says}
 use Rattle.listing.specs.Layout.{cells, horizon}
 use Rattle.year.specs.declared.Entry.{Entry}
 use Rattle.book.specs.Layout.{lineWords, year}
-use Rattle.book.specs.Check.{fitted, admittedOnly}
-use Rattle.book.specs.Sound.{Fitted}
+use Rattle.book.specs.Check.{admittedOnly}
 use Rattle.book.proofs.Sound.{fitted-says}
 use Rattle.closing.specs.Closable.{Closable}
 use Rattle.closing.proofs.Closable.{closable-before, closes}
-use Rattle.opening.specs.Opening.{openBook}
 use Rattle.ledger.specs.Calls.{written, closing}
 use Rattle.history.proofs.Says.{Says}
-use Rattle.history.proofs.NewBook.{open-says}
 use Rattle.history.proofs.NextYear.{year-says}
 use Rattle.history.proofs.After.{opened-says, closed-line}
 use Rattle.history.proofs.Totals.{over-same}
 use Rattle.forecast.specs.Forecast.{closedFor, yearKg, outputChecked, forecastAnswer}
-use Rattle.forecast.specs.Closings.{Ready, Closes, EveryYear}
+use Rattle.forecast.specs.CellYears.{Ready}
+use Rattle.forecast.specs.Closings.{Closes, EveryYear}
 
 -- ---- the years of a new book
 
@@ -59,21 +57,10 @@ module _ {l b : List ℕ} {n : ℕ} {entries : ℕ → Entry} (new : Says l b 0 
 pub every-year : EveryYear
 every-year l b x h room t lt = year-closes (opened-says l b h) x room t lt
 
--- ---- a forecast whose tests answered `Done`: what its open and its closings are given
+-- ---- a forecast whose tests answered `Done`: what its years are given
 
-module _ (l b : List ℕ) (room : ℕ) (v : Outcome) (e : outcome v ≡ forecastAnswer l b room) (d : v ≡ Done) where
-  passed : (fitted l b .done ≡ true) × (outputChecked l room .done ≡ true)
-  unfolding forecastAnswer
-  passed = after-says _ _ (ap (λ (a : Answer). a .done) (sym e ∙ ap outcome d))
-
-  pub ready-open : Fitted l b
-  ready-open = fitted-says l b (passed .0)
-
-  pub ready-close : Ready l (openBook l b) room
-  unfolding outputChecked
-  ready-close =
-      record {
-        accepted = ready-open .accepted;
-        enough = leb-true _ _ (need-says _ _ _ _ (passed .1) .0);
-        closable = year-closable (open-says l b (passed .0)) (lineWords * cells l) (le-refl _);
-      }
+pub ready : (l b : List ℕ) (room : ℕ) (v : Outcome) → outcome v ≡ forecastAnswer l b room → v ≡ Done → Ready l b room
+unfolding forecastAnswer outputChecked
+ready l b room v e d =
+    let passed = after-says _ _ (ap (λ (a : Answer). a .done) (sym e ∙ ap outcome d)) in
+    record { fitted = fitted-says l b (passed .0); enough = leb-true _ _ (need-says _ _ _ _ (passed .1) .0) }

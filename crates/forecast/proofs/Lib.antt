@@ -1,3 +1,4 @@
--- Laws of the forecast: that every year closes, and its loop.
+-- Laws of the forecast: that every year closes, that the closings come to each cell's own years, and its loops.
 pub mod EveryYear
+pub mod CellYears
 pub mod Turn

@@ -6,18 +6,10 @@ use Prim.Native.Nat.{ℕ, suc, _*_, _≤_, _<_}
 use mathlib.Core.List.{List}
 use lib.ListN.{length}
 use Rattle.listing.specs.Layout.{cells, horizon}
-use Rattle.listing.specs.Accepted.{Accepted}
 use Rattle.book.specs.Layout.{lineWords, kgLine}
 use Rattle.balance.specs.Balance.{overCells}
-use Rattle.closing.specs.Closable.{Closable}
 use Rattle.ledger.specs.Calls.{opening, closing}
 use Rattle.forecast.specs.Forecast.{closedFor, yearKg}
-
--- what the closings of an opened book b are given, for an output of `room` numbers
-pub record Ready (l b : List ℕ) (room : ℕ) : Type 0 where
-  pub accepted : Accepted l
-  pub enough : horizon l ≤ room
-  pub closable : (t : ℕ) → t < horizon l → Closable l (closedFor l b t) (lineWords * cells l)
 
 -- the closing of year t + 1 of book b, with a lines buffer x: it is accepted, leaves the book of the year after, and its kg lines add up to
 -- the year's number

@@ -1,23 +1,24 @@
-// The forecast: a listing's years, all closed on a scratch book without replanning or withdrawal.
+// The forecast: a listing's years on a scratch book, without replanning or withdrawal. What the closings
+// of all cells, year after year, come to is worked out cell by cell.
 ghost use mathlib.Core.Path.{_≡_};
-ghost use Prim.Native.Nat.{_*_, _≤_};
+ghost use mathlib.Core.List.{[], _∷_};
+ghost use Prim.Native.Nat.{_^_, _≤_, _<_};
 ghost use lib.ListN.{length};
 ghost use Rattle.words.specs.Answers.{outcome};
-ghost use Rattle.listing.specs.Layout.{cells};
+ghost use Rattle.words.specs.Blocks.{filled};
+ghost use Rattle.listing.specs.Layout.{head, cells, horizon};
 ghost use Rattle.listing.specs.Accepted.{Accepted};
-ghost use Rattle.book.specs.Layout.{lineWords};
-ghost use Rattle.closing.specs.Closing.{bookAfter};
-ghost use Rattle.closing.specs.Closable.{Closable};
-ghost use Rattle.forecast.specs.Forecast.{yearKg, closedBook, outputAfter, outputChecked, forecastAnswer, leavesOutput, forecasting};
-ghost use Rattle.forecast.specs.Closings.{Ready};
+ghost use Rattle.book.specs.Layout.{entryWords};
+ghost use Rattle.forecast.specs.Forecast.{outputChecked, forecastAnswer, leavesOutput, forecasting};
+ghost use Rattle.forecast.specs.CellYears.{restingYears, entryAfter, heldWords, ranCells, ranBook, addedYears, ranOutput, Running, Ready};
+use book::BOOK_HEAD;
+use book::ENTRY_WORDS;
+use fields::Head;
 use words::OUTPUT_SHORT;
 use words::Outcome;
 use words::refuse;
-
-// The line words of a cell, and those of the most cells that a listing has.
-const LINE_WORDS: usize = 3;
-
-const MOST_LINE_WORDS: usize = 768;
+use words::word;
+use year::Entry;
 
 // Number 15, for a right listing.
 fn check_output(listing: &[u32], room: usize) -> Outcome
@@ -40,31 +41,102 @@ fn may_forecast(listing: &[u32], book: &[u32], room: usize) -> Outcome
     }
 }
 
-// Closes the year after the current one, and answers its kg over all cells.
-fn close_next(listing: &[u32], book: &mut [u32], lines: &mut [u32]) -> u64
-    requires { ⌜ Closable (now listing) (now book) (length (now lines)) × (length (now lines) ≡ lineWords * cells (now listing)) ⌝ }
-    ensures { λ r. ⌜ r ≡ yearKg (now (listing .entry)) (now (book .entry)) ⌝ }
-    ensures { λ _. ⌜ now (book .exit) ≡ bookAfter (now (listing .entry)) (now (book .entry)) ⌝ }
+// The years in which a cell of this plan year rests before it loses: all, where it has none.
+fn resting_years(plan: u32, horizon: u32) -> u32
+    ensures { λ r. ⌜ r ≡ restingYears plan horizon ⌝ }
 {
-    closing::close_year(listing, book, &mut lines[..]);
-    totals::line_total(&lines[..], 2)
+    if plan == 0 {
+        return horizon;
+    }
+    plan - 1
 }
 
-// Closes every year of an opened book, and writes each year's kg.
-fn close_years(listing: &[u32], book: &mut [u32], output: &mut [u64])
-    requires { ⌜ Ready (now listing) (now book) (length (now output)) ⌝ }
-    ensures { λ _. ⌜ now (book .exit) ≡ closedBook (now (listing .entry)) (now (book .entry)) ⌝ }
-    ensures { λ _. ⌜ now (output .exit) ≡ outputAfter (now (listing .entry)) (now (book .entry)) (now (output .entry)) ⌝ }
+// One cell's years: adds its kg of each year to the year's number, and answers its entry after the
+// last. Its kg to date goes along, so that a year works it out once.
+fn run_cell(listing: &[u32], h: Head, i: usize, output: &mut [u64]) -> Entry
+    requires { ⌜ Running (now listing) h i (now output) ⌝ }
+    ensures { λ e. ⌜ e ≡ entryAfter (now (listing .entry)) i (horizon (now (listing .entry))) ⌝ }
+    ensures { λ _. ⌜ now (output .exit) ≡ addedYears (now (listing .entry)) i (now (output .entry)) ⌝ }
 {
-    let h = listing::head(listing);
-    let horizon = h.horizon as usize;
-    let mut lines = [0u32; MOST_LINE_WORDS];
-    let needed = LINE_WORDS * h.cells as usize;
-    let mut year: usize = 0;
+    let c = listing::cell(listing, i);
+    let mut e = Entry {
+        withdrawn: false,
+        plan: c.conversion,
+        oxidised: 0,
+        burned: 0,
+    };
+    let mut kg: u32 = 0;
+    let horizon = h.horizon;
+    let mut year = resting_years(c.conversion, horizon);
     while year < horizon {
-        output[year] = close_next(listing, book, &mut lines[..needed]);
+        let s = closing::cell_loss(listing, h, c, e, year + 1);
+        let oxidised = e.oxidised + s.oxidised;
+        let burned = e.burned + s.burned;
+        let then = year::emission(h, c, oxidised, burned);
+        output[year as usize] += (then - kg) as u64;
+        let grown = Entry {
+            withdrawn: e.withdrawn,
+            plan: e.plan,
+            oxidised,
+            burned,
+        };
+        e = grown;
+        kg = then;
         year += 1;
     }
+    e
+}
+
+// Writes the words of a cell that has no mark.
+fn put_cell(cell: &mut [u32], e: Entry)
+    requires { ⌜ (length (now cell) ≡ entryWords) × (e .plan < 2 ^ 8) × (e .oxidised < 2 ^ 28) × (e .burned < 2 ^ 28) ⌝ }
+    ensures { λ _. ⌜ now (cell .exit) ≡ heldWords e ⌝ }
+{
+    cell[0] = word(10, e.plan);
+    cell[1] = word(11, e.oxidised);
+    cell[2] = word(12, e.burned);
+}
+
+// Every cell's years, on an output that begins with zeros: each cell's words, and the years' numbers.
+fn run_cells(listing: &[u32], h: Head, book: &mut [u32], output: &mut [u64])
+    requires { ⌜ Ready (now listing) (now book) (length (now output)) × (h ≡ head (now listing)) × (now output ≡ ranOutput (now listing) (now output) 0) ⌝ }
+    ensures { λ _. ⌜ now (book .exit) ≡ ranCells (now (listing .entry)) (now (book .entry)) (horizon (now (listing .entry))) (cells (now (listing .entry))) ⌝ }
+    ensures { λ _. ⌜ now (output .exit) ≡ ranOutput (now (listing .entry)) (now (output .entry)) (cells (now (listing .entry))) ⌝ }
+{
+    let cells = h.cells as usize;
+    let mut i: usize = 0;
+    while i < cells {
+        let a = BOOK_HEAD + ENTRY_WORDS * i;
+        let e = a + ENTRY_WORDS;
+        let held = run_cell(listing, h, i, output);
+        put_cell(&mut book[a..e], held);
+        i += 1;
+    }
+}
+
+// Writes zeros as the first `n` numbers.
+fn clear(output: &mut [u64], n: usize)
+    requires { ⌜ n ≤ length (now output) ⌝ }
+    ensures { λ _. ⌜ now (output .exit) ≡ filled 1 (now (output .entry)) 0 (λ _. 0 ∷ []) n ⌝ }
+{
+    let mut year: usize = 0;
+    while year < n {
+        output[year] = 0;
+        year += 1;
+    }
+}
+
+// Writes the scratch book as it is after every year, and each year's kg.
+fn run_years(listing: &[u32], book: &mut [u32], output: &mut [u64])
+    requires { ⌜ Ready (now listing) (now book) (length (now output)) ⌝ }
+    ensures { λ _. ⌜ now (book .exit) ≡ ranBook (now (listing .entry)) (now (book .entry)) (horizon (now (listing .entry))) ⌝ }
+    ensures { λ _. ⌜ now (output .exit) ≡ ranOutput (now (listing .entry)) (now (output .entry)) (cells (now (listing .entry))) ⌝ }
+{
+    let h = listing::head(listing);
+    clear(output, h.horizon as usize);
+    run_cells(listing, h, book, output);
+    book::put_year(book, h.horizon);
+    book::put_issued(book, 0);
 }
 
 // Opens the scratch book, closes every year on it, and writes each year's kg over all cells. What
@@ -75,8 +147,7 @@ pub fn forecast(listing: &[u32], book: &mut [u32], output: &mut [u64]) -> Outcom
     let v = may_forecast(listing, &book[..], output.len());
     match v {
         Outcome::Done => {
-            opening::open_book(listing, book);
-            close_years(listing, book, output);
+            run_years(listing, book, output);
             Outcome::Done
         }
         Outcome::Refused(why) => Outcome::Refused(why),

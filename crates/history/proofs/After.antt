@@ -6,6 +6,7 @@ use Prim.Native.Nat.{ℕ, _+_, _<_}
 use lib.Dec.{eqb}
 use lib.ListN.{length, set}
 use borrow.Author.Tests.{eqb-true}
+use Rattle.year.specs.Year.{grown}
 use Rattle.words.specs.Answers.{Answer}
 use Rattle.words.proofs.Answers.{after-says, after-is}
 use Rattle.listing.specs.Layout.{cells, cell}
@@ -18,7 +19,7 @@ use Rattle.balance.specs.Balance.{tonnesDue}
 use Rattle.closing.specs.Closing.{loss, bookAfter, linesAfter, closeAnswer}
 use Rattle.opening.specs.Opening.{openBook}
 use Rattle.ledger.specs.Calls.{written, opening, closing, standing, replanAnswer, replanning, withdrawing, issueAnswer, issuing}
-use Rattle.history.proofs.Says.{Says, grown, planned, marked}
+use Rattle.history.proofs.Says.{Says, planned, marked}
 use Rattle.closing.proofs.Closable.{closable}
 use Rattle.ledger.proofs.Reached.{standing-says, replan-says}
 use Rattle.history.proofs.Stores.{says, says-as, says-issued, says-plan}

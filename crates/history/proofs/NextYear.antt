@@ -9,7 +9,7 @@ use Rattle.words.proofs.Blocks.{filled-word}
 use Rattle.fields.specs.declared.Head.{Head}
 use Rattle.fields.specs.declared.Cell.{Cell}
 use Rattle.listing.specs.Layout.{head, cells, row, cell}
-use Rattle.year.specs.Year.{mostLoss}
+use Rattle.year.specs.Year.{mostLoss, grown}
 use Rattle.year.specs.declared.Loss.{Loss}
 use Rattle.book.specs.Layout.{lineWords, number, year, issued, entryOf, wordsOf, entry, linesOf, oxidisedLine, burnedLine, kgLine}
 use Rattle.book.proofs.Words.{number-of, oxidised-right, burned-right}
@@ -18,7 +18,7 @@ use Rattle.book.proofs.Keeps.{admitted-fitted}
 use Rattle.closing.specs.Closable.{Closable}
 use Rattle.closing.proofs.Turn.{three-words, three-lines}
 use Rattle.closing.specs.Closing.{loss, wordsAfter, closedWords, closedLines, bookAfter, linesAfter}
-use Rattle.history.proofs.Says.{Says, grown}
+use Rattle.history.proofs.Says.{Says}
 use Rattle.history.proofs.Stores.{says-as, says-year, says-filled, most-small}
 use Rattle.year.proofs.Laws.{year-most}
 

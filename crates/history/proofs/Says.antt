@@ -16,10 +16,7 @@ pub record Says (l b : List ℕ) (t tonnes : ℕ) (entries : ℕ → Entry) : Ty
   pub issued-is : issued b ≡ tonnes
   pub entry-is : (i : ℕ) → i < cells l → entry b i ≡ entries i
 
--- an entry after a year's loss, with another plan year, with the mark
-abbrev pub grown : Entry → Loss → Entry
-grown e s = record { withdrawn = e .withdrawn; plan = e .plan; oxidised = e .oxidised + s .oxidised; burned = e .burned + s .burned }
-
+-- an entry with another plan year, with the mark
 abbrev pub planned : Entry → ℕ → Entry
 planned e y = record { withdrawn = e .withdrawn; plan = y; oxidised = e .oxidised; burned = e .burned }
 

@@ -63,6 +63,10 @@ none = record { oxidised = 0; burned = 0; kg = 0 }
 unfoldable pub yearLoss : Head → (ℕ → ℕ → Row) → Cell → Entry → ℕ → Loss
 yearLoss h rows c e t = cond (rests h c e t) none (lossOf h c (rows (c .stratum) (age (e .plan) t)) e)
 
+-- what the book holds of a cell after a loss: O and B with the year's mm added
+abbrev pub grown : Entry → Loss → Entry
+grown e s = record { withdrawn = e .withdrawn; plan = e .plan; oxidised = e .oxidised + s .oxidised; burned = e .burned + s .burned }
+
 -- no more can be lost of a cell than was entered, and nothing of one below the least thickness
 unfoldable pub mostLoss : Head → Cell → ℕ
 mostLoss h c = cond (ltb (c .entered) (h .thickness)) 0 (c .entered)
