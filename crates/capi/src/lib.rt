@@ -12,7 +12,6 @@ use discount::Discounted;
 use ledger::Issued;
 use ledger::Stated;
 use reading::Measured;
-use reading::Reading;
 use words::Outcome;
 use words::Refusal;
 
@@ -203,7 +202,7 @@ pub extern "C" fn peat_levels(surface: f32, base: f32) -> Reply
 pub extern "C" fn peat_missing() -> Reply
     ensures { λ r. ⌜ r ≡ sent (depth Missing) ⌝ }
 {
-    of_measured(reading::depth(Reading::Missing))
+    of_measured(reading::missing())
 }
 
 // The value is the discount in ten-thousandths.

@@ -10,6 +10,7 @@ ghost use lib.IntN.{pos, _+ℤ_};
 ghost use Rattle.words.specs.Answers.{refused};
 ghost use Rattle.reading.specs.Metres.{isFinite, over, between, inLevel, mm, Ends, Parted};
 ghost use Rattle.reading.specs.Depth.{measured, core, levels, depth};
+ghost use Rattle.reading.specs.declared.Reading.the-variants.{Missing};
 
 pub enum Reading {
     Core(f32),
@@ -35,8 +36,15 @@ pub fn depth(reading: Reading) -> Measured
     match reading {
         Reading::Core(x) => core(x),
         Reading::Levels(surface, base) => levels(surface, base),
-        Reading::Missing => refuse(READING_MISSING, 0),
+        Reading::Missing => missing(),
     }
+}
+
+// The answer to a reading that is missing.
+pub fn missing() -> Measured
+    ensures { λ r. ⌜ measured r ≡ depth Missing ⌝ }
+{
+    refuse(READING_MISSING, 0)
 }
 
 // The depth of a core. It is a level as well: its millimetres too are those above -100,000, less

@@ -15,4 +15,4 @@ depth-spec =
     (λ c κs. search needs)
     (λ c. rw (c .before .before .reading .given .1) (c .core .ensures))
     (λ c. rw (c .before .before .reading2 .given .1) (c .levels .ensures))
-    (λ c. rw (c .before .enum-told .given .1) (c .refuse .ensures)))
+    (λ c. rw (c .before .enum-told .given .1) (c .missing .ensures)))
