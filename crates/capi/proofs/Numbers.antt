@@ -1,13 +1,13 @@
 -- Every call's answer has number 0 exactly where it is accepted: a refusal's number is one of the table's, 1 to 20. Assumes nothing.
 use mathlib.Core.Path.{_≡_, refl, sym}
-use mathlib.Core.Bool.{Bool, true, false}
+use mathlib.Core.Bool.{Bool, false}
 use mathlib.Core.List.{List}
 use Prim.Native.Nat.{ℕ}
 use lib.Dec.{ltb, eqb}
 use Rattle.words.specs.Answers.{Answer, accepted, need, unfound, after}
 use Rattle.words.proofs.Signed.{by-test}
 use Rattle.listing.specs.Check.{laterChecked, checked}
-use Rattle.book.specs.Check.{roomChecked, fitted, bookChecked, admitted, admittedOnly}
+use Rattle.book.specs.Check.{roomChecked, fitted, bookChecked, admitted}
 use Rattle.closing.specs.Closing.{yearChecked, closeAnswer}
 use Rattle.ledger.specs.Calls.{opening, closing, cellChecked, reached, markChecked, standing, planChecked, replanAnswer, replanning, withdrawing, issueAnswer, issuing, stating}
 use Rattle.forecast.specs.Forecast.{outputChecked, forecastAnswer, forecasting}

@@ -2,10 +2,9 @@
 use mathlib.Core.Path.{_≡_}
 use mathlib.Core.Bool.{true}
 use mathlib.Core.List.{List}
-use Prim.Native.Nat.{ℕ, _+_, _<_}
+use Prim.Native.Nat.{ℕ, _<_}
 use Rattle.listing.specs.Layout.{cells}
 use Rattle.year.specs.declared.Entry.{Entry}
-use Rattle.year.specs.declared.Loss.{Loss}
 use Rattle.book.specs.Layout.{year, issued, entry}
 use Rattle.book.specs.Check.{admittedOnly}
 

@@ -1,5 +1,5 @@
 -- `decode::decode` meets its contract: turn i stores word i. Assumes nothing.
-use mathlib.Core.Path.{_≡_, refl, ap, _∙_}
+use mathlib.Core.Path.{_≡_, refl, ap}
 use mathlib.Core.List.{[], _∷_}
 use Prim.Native.Nat.{ℕ, zero-le, _-_, _*_, _≤_}
 use native.Mathlib.Nat.{le-antisymm}
