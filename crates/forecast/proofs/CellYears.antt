@@ -22,11 +22,11 @@ use Rattle.book.specs.Sound.{Fitted, EntryRight}
 use Rattle.book.proofs.Words.{number-of, plan-of, mark-of}
 use Rattle.book.proofs.Entries.{year-kept, year-put, words-kept, words-filled}
 use Rattle.balance.specs.Balance.{overCells}
-use Rattle.opening.specs.Opening.{openWords, openBook}
+use Rattle.opening.specs.Opening.{openWords, openBook, heldWords}
 use Rattle.closing.specs.Closing.{loss, wordsAfter, closedWords, bookAfter}
 use Rattle.history.proofs.Totals.{over-same}
 use Rattle.forecast.specs.Forecast.{closedFor, yearKg, closedBook, outputAfter}
-use Rattle.forecast.specs.CellYears.{restingYears, entryAfter, lossIn, heldWords, ranWords, ranCells, ranBook, ranOutput}
+use Rattle.forecast.specs.CellYears.{restingYears, entryAfter, lossIn, ranWords, ranCells, ranBook, ranOutput}
 
 -- ---- a cell's entry after t years
 

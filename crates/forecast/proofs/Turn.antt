@@ -27,7 +27,8 @@ use Rattle.book.proofs.Sound.{entry-fit}
 use Rattle.balance.specs.Balance.{overCells}
 use Rattle.closing.specs.Closable.{Losing}
 use Rattle.closing.proofs.Closable.{lost-then}
-use Rattle.forecast.specs.CellYears.{restingYears, entryAfter, lossIn, heldWords, ranWords, ranCells, addedYears, ranOutput, Running, Ready}
+use Rattle.opening.specs.Opening.{heldWords}
+use Rattle.forecast.specs.CellYears.{restingYears, entryAfter, lossIn, ranWords, ranCells, addedYears, ranOutput, Running, Ready}
 use Rattle.forecast.proofs.CellYears.{after-right, after-small, rests-no-loss, rests-opened, three-words}
 
 -- ---- kg, by the limits of an accepted listing

@@ -1,7 +1,7 @@
 -- The forecast's years, cell by cell: a cell's loss goes by its own entry alone, so each cell runs through all years by itself.
 -- proofs/CellYears.antt proves that the closings of an opened book come to this.
 use mathlib.Core.Path.{_≡_}
-use mathlib.Core.Bool.{false, cond}
+use mathlib.Core.Bool.{cond}
 use mathlib.Core.List.{List, [], _∷_}
 use Prim.Native.Nat.{ℕ, zero, suc, _+_, _-_, _^_, _≤_, _<_}
 use lib.Dec.{eqb}
@@ -13,13 +13,14 @@ use Rattle.listing.specs.Accepted.{Accepted}
 use Rattle.year.specs.Year.{yearLoss, grown}
 use Rattle.year.specs.declared.Entry.{Entry}
 use Rattle.year.specs.declared.Loss.{Loss}
-use Rattle.book.specs.Layout.{bookHead, entryWords, yearAt, issuedAt, yearWord, issuedWord, planWord, oxidisedWord, burnedWord}
+use Rattle.book.specs.Layout.{bookHead, entryWords, yearAt, issuedAt, yearWord, issuedWord}
 use Rattle.book.specs.Sound.{Fitted}
 use Rattle.balance.specs.Balance.{overCells}
+use Rattle.opening.specs.Opening.{heldWords, openEntry}
 
 -- cell i's entry after t years: opened, then with each year's mm added
 unfoldable pub entryAfter : List ℕ → ℕ → ℕ → Entry
-entryAfter l i zero = record { withdrawn = false; plan = cell l i .conversion; oxidised = 0; burned = 0 }
+entryAfter l i zero = openEntry l i
 entryAfter l i (suc t) = grown (entryAfter l i t) (yearLoss (head l) (row l) (cell l i) (entryAfter l i t) (t + 1))
 
 -- what it loses in the year t + 1
@@ -29,10 +30,6 @@ lossIn l i t = yearLoss (head l) (row l) (cell l i) (entryAfter l i t) (t + 1)
 -- the years in which a cell of this plan year rests before it loses: all, where it has none
 unfoldable pub restingYears : ℕ → ℕ → ℕ
 restingYears plan horizon = cond (eqb plan 0) horizon (plan - 1)
-
--- the three words of an entry that has no mark
-abbrev pub heldWords : Entry → List ℕ
-heldWords e = planWord false (e .plan) ∷ oxidisedWord (e .oxidised) ∷ burnedWord (e .burned) ∷ []
 
 -- those of cell i after t years
 abbrev pub ranWords : List ℕ → ℕ → ℕ → List ℕ

@@ -2,22 +2,20 @@
 // of all cells, year after year, come to is worked out cell by cell.
 ghost use mathlib.Core.Path.{_≡_};
 ghost use mathlib.Core.List.{[], _∷_};
-ghost use Prim.Native.Nat.{_^_, _≤_, _<_};
+ghost use Prim.Native.Nat.{_≤_};
 ghost use lib.ListN.{length};
 ghost use Rattle.words.specs.Answers.{outcome};
 ghost use Rattle.words.specs.Blocks.{filled};
 ghost use Rattle.listing.specs.Layout.{head, cells, horizon};
 ghost use Rattle.listing.specs.Accepted.{Accepted};
-ghost use Rattle.book.specs.Layout.{entryWords};
 ghost use Rattle.forecast.specs.Forecast.{outputChecked, forecastAnswer, leavesOutput, forecasting};
-ghost use Rattle.forecast.specs.CellYears.{restingYears, entryAfter, heldWords, ranCells, ranBook, addedYears, ranOutput, Running, Ready};
+ghost use Rattle.forecast.specs.CellYears.{restingYears, entryAfter, ranCells, ranBook, addedYears, ranOutput, Running, Ready};
 use book::BOOK_HEAD;
 use book::ENTRY_WORDS;
 use fields::Head;
 use words::OUTPUT_SHORT;
 use words::Outcome;
 use words::refuse;
-use words::word;
 use year::Entry;
 
 // Number 15, for a right listing.
@@ -87,16 +85,6 @@ fn run_cell(listing: &[u32], h: Head, i: usize, output: &mut [u64]) -> Entry
     e
 }
 
-// Writes the words of a cell that has no mark.
-fn put_cell(cell: &mut [u32], e: Entry)
-    requires { ⌜ (length (now cell) ≡ entryWords) × (e .plan < 2 ^ 8) × (e .oxidised < 2 ^ 28) × (e .burned < 2 ^ 28) ⌝ }
-    ensures { λ _. ⌜ now (cell .exit) ≡ heldWords e ⌝ }
-{
-    cell[0] = word(10, e.plan);
-    cell[1] = word(11, e.oxidised);
-    cell[2] = word(12, e.burned);
-}
-
 // Every cell's years, on an output that begins with zeros: each cell's words, and the years' numbers.
 fn run_cells(listing: &[u32], h: Head, book: &mut [u32], output: &mut [u64])
     requires { ⌜ Ready (now listing) (now book) (length (now output)) × (h ≡ head (now listing)) × (now output ≡ ranOutput (now listing) (now output) 0) ⌝ }
@@ -109,7 +97,7 @@ fn run_cells(listing: &[u32], h: Head, book: &mut [u32], output: &mut [u64])
         let a = BOOK_HEAD + ENTRY_WORDS * i;
         let e = a + ENTRY_WORDS;
         let held = run_cell(listing, h, i, output);
-        put_cell(&mut book[a..e], held);
+        opening::put_cell(&mut book[a..e], held);
         i += 1;
     }
 }

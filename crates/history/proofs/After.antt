@@ -9,7 +9,7 @@ use borrow.Author.Tests.{eqb-true}
 use Rattle.year.specs.Year.{grown}
 use Rattle.words.specs.Answers.{Answer}
 use Rattle.words.proofs.Answers.{after-says, after-is}
-use Rattle.listing.specs.Layout.{cells, cell}
+use Rattle.listing.specs.Layout.{cells}
 use Rattle.year.specs.declared.Entry.{Entry}
 use Rattle.book.specs.Layout.{entryAt, year, issued, entry, issuedWord, planWord, oxidisedLine, burnedLine, kgLine}
 use Rattle.book.specs.Check.{fitted, admittedOnly}
@@ -17,7 +17,7 @@ use Rattle.book.proofs.Sound.{sound}
 use Rattle.book.proofs.Entries.{replaced}
 use Rattle.balance.specs.Balance.{tonnesDue}
 use Rattle.closing.specs.Closing.{loss, bookAfter, linesAfter, closeAnswer}
-use Rattle.opening.specs.Opening.{openBook}
+use Rattle.opening.specs.Opening.{openEntry, openBook}
 use Rattle.ledger.specs.Calls.{written, opening, closing, standing, replanAnswer, replanning, withdrawing, issueAnswer, issuing}
 use Rattle.history.proofs.Says.{Says, planned, marked}
 use Rattle.closing.proofs.Closable.{closable}
@@ -97,7 +97,7 @@ withdrawn-says l b i h =
 
 -- ---- open and close
 
-pub opened-says : (l b : List ℕ) → opening l b .answer .done ≡ true → Says l (opening l b .book) 0 0 (λ i. record { withdrawn = false; plan = cell l i .conversion; oxidised = 0; burned = 0 })
+pub opened-says : (l b : List ℕ) → opening l b .answer .done ≡ true → Says l (opening l b .book) 0 0 (openEntry l)
 unfolding opening
 opened-says l b h = rw (written-new (fitted l b) b (openBook l b) h) (open-says l b h)
 

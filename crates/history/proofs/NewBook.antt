@@ -10,21 +10,16 @@ use Rattle.words.specs.Blocks.{blocks, filled}
 use Rattle.listing.specs.Layout.{head, cells, horizon, cell}
 use Rattle.listing.specs.Accepted.{Accepted}
 use Rattle.year.specs.Year.{mostLoss}
-use Rattle.year.specs.declared.Entry.{Entry}
 use Rattle.book.specs.Layout.{bookHead, entryWords, year, issued, entryOf}
 use Rattle.book.specs.Check.{fitted}
 use Rattle.book.proofs.Words.{plan-of, mark-of, year-right, issued-right, plan-right, oxidised-right, burned-right}
 use Rattle.book.proofs.Right.{WordsRight}
 use Rattle.book.proofs.Sound.{fitted-says}
 use Rattle.book.proofs.Keeps.{fitted-length}
-use Rattle.opening.specs.Opening.{openHead, openWords, openBook}
+use Rattle.opening.specs.Opening.{openHead, openEntry, openWords, openBook}
 use Rattle.opening.proofs.Opened.{three-opened}
 use Rattle.history.proofs.Says.{Says}
 use Rattle.history.proofs.Stores.{says-as, says-filled, most-small}
-
--- an entry of which nothing is lost
-abbrev pub untouched : List ℕ → ℕ → Entry
-untouched l i = record { withdrawn = false; plan = cell l i .conversion; oxidised = 0; burned = 0 }
 
 module _ (l b : List ℕ) (fits : fitted l b .done ≡ true) where
   -- it is filled behind a new head
@@ -54,13 +49,13 @@ module _ (l b : List ℕ) (fits : fitted l b .done ≡ true) where
         burned = burned-right (mostLoss (head l) (cell l i)) 0 0 zero-le (most-small l here i lt);
       }
 
-  opened-entry : (i : ℕ) → i < cells l → entryOf (openWords l i) ≡ untouched l i
+  opened-entry : (i : ℕ) → i < cells l → entryOf (openWords l i) ≡ openEntry l i
   unfolding openWords entryOf
   opened-entry i lt =
       let y : cell l i .conversion < 2 ^ 8 = omega (arith, here .cell-right i lt .conversion, small) in
       rw (plan-of false (cell l i .conversion) y, mark-of false (cell l i .conversion) y)
 
-  pub open-says : Says l (openBook l b) 0 0 (untouched l)
+  pub open-says : Says l (openBook l b) 0 0 (openEntry l)
   unfolding year issued
   open-says =
       rw open-filled
@@ -71,5 +66,5 @@ module _ (l b : List ℕ) (fits : fitted l b .done ≡ true) where
       (openWords l)
       (three-opened l)
       opened-right)
-      (untouched l)
+      (openEntry l)
       opened-entry)

@@ -1,26 +1,25 @@
 // What an open writes: a head of year 0, and for each cell its plan year of the listing.
 ghost use mathlib.Core.Path.{_≡_};
-ghost use mathlib.Core.Bool.{false};
-ghost use mathlib.Core.List.{[], _∷_};
 ghost use Prim.Native.Nat.{_^_, _<_};
 ghost use lib.ListN.{length};
 ghost use Rattle.words.specs.Blocks.{filled};
 ghost use Rattle.listing.specs.Layout.{cells};
-ghost use Rattle.book.specs.Layout.{bookHead, entryWords, planWord, oxidisedWord, burnedWord};
+ghost use Rattle.book.specs.Layout.{bookHead, entryWords};
 ghost use Rattle.book.specs.Sound.{Fitted};
-ghost use Rattle.opening.specs.Opening.{openHead, openWords, openBook};
+ghost use Rattle.opening.specs.Opening.{openHead, heldWords, openWords, openBook};
 use book::BOOK_HEAD;
 use book::ENTRY_WORDS;
 use words::word;
+use year::Entry;
 
-// Writes a cell of which nothing is lost.
-fn open_cell(cell: &mut [u32], plan: u32)
-    requires { ⌜ (length (now cell) ≡ entryWords) × (plan < 2 ^ 8) ⌝ }
-    ensures { λ _. ⌜ now (cell .exit) ≡ planWord false plan ∷ oxidisedWord 0 ∷ burnedWord 0 ∷ [] ⌝ }
+// Writes the words of a cell that has no mark.
+pub fn put_cell(cell: &mut [u32], e: Entry)
+    requires { ⌜ (length (now cell) ≡ entryWords) × (e .plan < 2 ^ 8) × (e .oxidised < 2 ^ 28) × (e .burned < 2 ^ 28) ⌝ }
+    ensures { λ _. ⌜ now (cell .exit) ≡ heldWords e ⌝ }
 {
-    cell[0] = word(10, plan);
-    cell[1] = word(11, 0);
-    cell[2] = word(12, 0);
+    cell[0] = word(10, e.plan);
+    cell[1] = word(11, e.oxidised);
+    cell[2] = word(12, e.burned);
 }
 
 // Writes the first `n` cells, with the plan years of the listing.
@@ -33,7 +32,13 @@ fn open_cells(listing: &[u32], book: &mut [u32], n: usize)
         let a = BOOK_HEAD + ENTRY_WORDS * i;
         let e = a + ENTRY_WORDS;
         let c = listing::cell(listing, i);
-        open_cell(&mut book[a..e], c.conversion);
+        let new = Entry {
+            withdrawn: false,
+            plan: c.conversion,
+            oxidised: 0,
+            burned: 0,
+        };
+        put_cell(&mut book[a..e], new);
         i += 1;
     }
 }

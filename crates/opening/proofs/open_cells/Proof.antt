@@ -27,13 +27,13 @@ loop-holds : tie.Need-loop-holds Inv-loop μ-loop
 loop-holds c = (zero-le, refl, filled-none entryWords _ bookHead _ (three-opened _) (omega arith))
 
 -- a plan year is at most the horizon
-open-cell-requires : tie.Need-open-cell-requires Inv-loop μ-loop
-open-cell-requires c κs =
+put-cell-requires : tie.Need-put-cell-requires Inv-loop μ-loop
+put-cell-requires c κs =
     let cell = c .before in
     let start = cell .before .before .before .before .before in
     let a = start .pre .0 .accepted in
     let right = a .cell-right (cell .before .before .loop .i) (omega (arith, cell .before .loop-test .taken, start .pre .1)) in
-    (simp (length-take, length-drop) (omega arith), omega (arith, ap (λ (x : Cell). x .conversion) (cell .cell .ensures), right .conversion, a .head-right .horizon .1))
+    (simp (length-take, length-drop) (omega arith), omega (arith, ap (λ (x : Cell). x .conversion) (cell .cell .ensures), right .conversion, a .head-right .horizon .1), omega arith, omega arith)
 
 loop-again : tie.Need-loop-again Inv-loop μ-loop
 unfolding openWords
@@ -43,7 +43,7 @@ loop-again c =
     let s = cell .before .before .before .before .before in
     let l = now (s .args .listing) in
     let b = now (s .args .book) in
-    let words = c .before .before .open-cell .ensures ∙ ap (λ (x : Cell). planWord false (x .conversion) ∷ oxidisedWord 0 ∷ burnedWord 0 ∷ []) (cell .cell .ensures) in
+    let words = c .before .before .put-cell .ensures ∙ ap (λ (x : Cell). planWord false (x .conversion) ∷ oxidisedWord 0 ∷ burnedWord 0 ∷ []) (cell .cell .ensures) in
     let e = filled-next entryWords b bookHead (openWords l) (three-opened l) (omega arith) (t .i) (entryAt (t .i)) (t .inv .2) refl words in
     (omega arith, ap length e ∙ length-filled entryWords b bookHead (openWords l) (three-opened l) (omega arith) (t .i + 1) (omega arith), e)
 
@@ -65,7 +65,7 @@ open-cells-spec =
     (λ c. search needs)
     (λ c. search needs)
     (λ c. search needs)
-    open-cell-requires
+    put-cell-requires
     (λ c. search needs)
     (λ c. search needs)
     loop-again
