@@ -34,7 +34,7 @@
  *   11   replan, withdraw      the cell is withdrawn                                   0
  *   12   replan                the cell is converted already                           0
  *   13   replan                the new year is neither 0 nor current + 1 to horizon    0
- *   14   close                 a kg line above 268,435,455                             the cell
+ *   14   close                 a kg line above 268,435,455: proved not to arise        the cell
  *   15   forecast              output shorter than the horizon                         length of output
  *   16   core, levels          not a finite number                                     0: core or surface, 1: base
  *   17   core, levels          out of range                                            the same, 2: the difference
