@@ -123,7 +123,8 @@ module _ (l b : List ℕ) (s : Sound l b) where
   pub sound-fits : (i : ℕ) → i < cells l → loss l b i .kg ≤ mostNumber
   sound-fits i lt =
       let right = s .fitted .accepted in
-      omega (arith, year-kg-most (head l) (row l) (cell l i) (entry b i) (year b + 1) (right .head-right) (right .cell-right i lt) (right .row-right))
+      let most : loss l b i .kg ≤ 50740800 = year-kg-most (head l) (row l) (cell l i) (entry b i) _ (right .head-right) (right .cell-right i lt) (right .row-right) in
+      omega arith
 
   -- so number 9 is the only one
   pub year-fine : year b < horizon l → accepted 0 ≡ yearChecked l b
