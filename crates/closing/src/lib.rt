@@ -1,4 +1,4 @@
-// The closing of a year: a first pass reads and decides, a second writes, cell by cell.
+// The closing of a year: the tests decide, and only then is anything written, cell by cell.
 ghost use mathlib.Core.Path.{_≡_};
 ghost use Prim.Native.Nat.{_+_, _<_, _≤_};
 ghost use lib.ListN.{length};

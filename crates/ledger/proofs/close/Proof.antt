@@ -1,4 +1,4 @@
--- `ledger::close` meets its contract: a first pass decides, and only then is anything written. Assumes nothing.
+-- `ledger::close` meets its contract: the tests decide, and only then is anything written. Assumes nothing.
 use borrow.Author.Needs.{needs}
 use Rattle.closing.proofs.Closable.{closable-done}
 use Rattle.ledger.specs.Calls.{closing}
