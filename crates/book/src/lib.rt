@@ -26,6 +26,9 @@ pub const BOOK_HEAD: usize = 2;
 
 pub const ENTRY_WORDS: usize = 3;
 
+// The words of a cell in the lines of a closing.
+pub const LINE_WORDS: usize = 3;
+
 // Where the current year and the tonnes issued stand.
 const YEAR_AT: usize = 0;
 
@@ -231,5 +234,5 @@ pub fn put_plan(book: &mut [u32], i: usize, withdrawn: bool, plan: u32)
 {
     let at = BOOK_HEAD + ENTRY_WORDS * i;
     let mark = if withdrawn { 1 } else { 0 };
-    book[at] = words::word(10, mark * 256 + plan);
+    book[at] = words::word(10, (mark << 8) | plan);
 }

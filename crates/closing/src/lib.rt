@@ -12,6 +12,7 @@ ghost use Rattle.closing.specs.Closing.{cellLoss, wordsAfter, closedWord
 ghost use Rattle.closing.specs.Closable.{Losing, Timely, Closable};
 use book::BOOK_HEAD;
 use book::ENTRY_WORDS;
+use book::LINE_WORDS;
 use fields::Cell;
 use fields::Head;
 use words::HORIZON_REACHED;
@@ -20,9 +21,6 @@ use words::refuse;
 use words::word;
 use year::Entry;
 use year::Loss;
-
-// The line words of a cell.
-const LINE_WORDS: usize = 3;
 
 // What a cell loses in `year`, by its own entry and the row of its own stratum and age.
 pub fn cell_loss(listing: &[u32], h: Head, c: Cell, e: Entry, year: u32) -> Loss

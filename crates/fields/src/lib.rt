@@ -7,6 +7,13 @@ use words::bits;
 use words::is_kind;
 use words::signed_bits;
 
+// The limits of word 0.
+pub const MOST_CELLS: u32 = 256;
+
+pub const MOST_STRATA: u32 = 16;
+
+pub const MOST_HORIZON: u32 = 100;
+
 // What is said of the project as a whole. The guard and the thickness, the least of peat, are in mm.
 pub struct Head {
     pub cells: u32,
@@ -46,7 +53,10 @@ pub struct YearlyTerm {
 pub fn is_size_word(w: u32) -> bool
     ensures { λ r. ⌜ r ≡ isSizeWord w ⌝ }
 {
-    is_kind(w, 1) & between(w, 27, 16, 1, 256) & between(w, 15, 8, 1, 16) & between(w, 7, 0, 1, 100)
+    is_kind(w, 1)
+        & between(w, 27, 16, 1, MOST_CELLS)
+        & between(w, 15, 8, 1, MOST_STRATA)
+        & between(w, 7, 0, 1, MOST_HORIZON)
 }
 
 // Whether w is right as word 1.

@@ -1,17 +1,13 @@
 -- THE THEOREM of specs/History.antt: every list of calls keeps the claims. Assumes nothing.
-use mathlib.Core.Path.{_≡_, refl, sym, ap, _∙_}
+use mathlib.Core.Path.{_≡_, refl}
 use mathlib.Core.Bool.{true}
 use mathlib.Core.List.{List, [], _∷_}
-use Prim.Native.Nat.{ℕ, _<_}
+use Prim.Native.Nat.{ℕ}
 use native.Mathlib.Omega.{arith}
-use borrow.Author.Tests.{lt-ltb}
-use Rattle.words.specs.Answers.{Answer, accepted}
-use Rattle.words.specs.Refusals.{noSuchCell}
-use Rattle.words.proofs.Answers.{need-is, after-is}
-use Rattle.listing.specs.Layout.{cells}
 use Rattle.year.specs.Year.{emission}
 use Rattle.book.specs.Check.{admittedOnly}
-use Rattle.ledger.specs.Calls.{opening, cellChecked, reached, accountOf, stating}
+use Rattle.ledger.specs.Calls.{opening, accountOf, stating}
+use Rattle.ledger.proofs.Reached.{reaches}
 use Rattle.history.specs.History.{Call, State, next, run, Start, fresh, yearIn, planIn, sumOf, issuedIn, highest, EachClosing, Kept, EveryList, Brings, EveryListFrom}
 use Rattle.history.proofs.After.{opened-says}
 use Rattle.book.proofs.Sound.{sound}
@@ -39,20 +35,13 @@ unfolding run
 kept-run l s now [] v = v
 kept-run l s now (c ∷ calls) v = kept-run l s (next l now c) calls (kept-step l s (now .book) (now .history) v c)
 
--- a statement of a cell is accepted where the book is admitted
-reached-done : (l b : List ℕ) (i : ℕ) → admittedOnly l b .done ≡ true → i < cells l → reached l b i .done ≡ true
-unfolding reached cellChecked
-reached-done l b i admits p =
-    ap (λ (a : Answer). a .done)
-    (sym (need-is _ noSuchCell 0 (accepted 0) (lt-ltb i (cells l) p) ∙ after-is _ (admittedOnly l b) admits))
-
 -- what the invariant says in words
 claims : (l : List ℕ) (s : Start) (now : State) → Inv l s (now .book) (now .history) → Kept l s now
 unfolding stating accountOf
 claims l s now v =
     record {
       each = λ i p.
-          let told = reached-done l (now .book) i (v .admits) p in
+          let told = reaches l (now .book) i (v .admits) p in
           record {
             told = told;
             depth = rw told (omega (arith, v .oxidised-is i p, v .burned-is i p, sound l (now .book) 0 0 (v .admits) .entry-right i p .lost));

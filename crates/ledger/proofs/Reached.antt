@@ -5,13 +5,15 @@ use mathlib.Core.List.{List}
 use Prim.Native.Nat.{ℕ, _^_, _≤_, _<_}
 use native.Mathlib.Omega.{arith}
 use lib.Dec.{eqb, ltb, leb}
-use borrow.Author.Tests.{leb-true, ltb-true, eqb-true, not-true}
-use Rattle.words.specs.Answers.{Answer, outcome}
+use borrow.Author.Tests.{lt-ltb, leb-true, ltb-true, eqb-true, not-true}
+use Rattle.words.specs.Answers.{Answer, accepted, outcome}
+use Rattle.words.specs.Refusals.{noSuchCell}
 use Rattle.words.specs.declared.Outcome.{Outcome}
 use Rattle.words.specs.declared.Outcome.the-variants.{Done}
-use Rattle.words.proofs.Answers.{need-says, after-says, and-right}
-use Rattle.listing.specs.Layout.{horizon}
+use Rattle.words.proofs.Answers.{need-says, after-says, need-is, after-is, and-right}
+use Rattle.listing.specs.Layout.{cells, horizon}
 use Rattle.book.specs.Layout.{year, entry}
+use Rattle.book.specs.Check.{admittedOnly}
 use Rattle.book.proofs.Sound.{sound, sound-room, entry-fit}
 use Rattle.ledger.specs.Calls.{cellChecked, reached, markChecked, standing, ahead, planChecked, replanAnswer}
 use Rattle.ledger.specs.Reached.{Reached}
@@ -34,7 +36,14 @@ module _ (l b : List ℕ) (i : ℕ) where
         fit = entry-fit l i (entry b i) (s .fitted .accepted) lt right;
       }
 
-  -- and where it stands, it is not withdrawn
+  -- and the other way round: each cell of an accepted book is reached
+  pub reaches : admittedOnly l b .done ≡ true → i < cells l → reached l b i .done ≡ true
+  unfolding reached cellChecked
+  reaches admits lt =
+      ap (λ (a : Answer). a .done)
+      (sym (need-is _ noSuchCell 0 (accepted 0) (lt-ltb i (cells l) lt) ∙ after-is _ (admittedOnly l b) admits))
+
+  -- where it stands, it is not withdrawn
   pub standing-says : standing l b i .done ≡ true → Reached l b i × (entry b i .withdrawn ≡ false)
   unfolding standing markChecked
   standing-says h =

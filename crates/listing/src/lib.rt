@@ -11,6 +11,9 @@ ghost use Rattle.listing.specs.Check.{isCellWord, tableRight, cellRight,
 ghost use Rattle.listing.specs.Accepted.{InTurn, Accepted};
 use fields::Cell;
 use fields::Head;
+use fields::MOST_CELLS;
+use fields::MOST_HORIZON;
+use fields::MOST_STRATA;
 use fields::Row;
 use words::HEAD_WORD;
 use words::LATER_WORD;
@@ -23,6 +26,15 @@ use words::refuse;
 const HEAD_WORDS: usize = 2;
 
 const CELL_WORDS: usize = 2;
+
+// The terms that a year may have, each once.
+const YEAR_TERMS: usize = 7;
+
+// The words of the longest listing: 2,814.
+pub const MOST_WORDS: usize = HEAD_WORDS
+    + (MOST_STRATA * MOST_HORIZON) as usize
+    + CELL_WORDS * MOST_CELLS as usize
+    + YEAR_TERMS * MOST_HORIZON as usize;
 
 // Where the parts of a listing begin.
 pub struct Starts {

@@ -1,37 +1,42 @@
 // Reads a listing's words from standard input, closes every year and issues after each. It prints a
-// line for each year, and what is left; or why the input is refused.
-ghost use Prim.Native.Nat.{_^_, _≤_};
+// line for each year, and what is left; or why the input is refused. It stops at a write that fails.
+ghost use mathlib.Core.Path.{_≡_};
+ghost use mathlib.Core.Bool.{true};
+ghost use Prim.Native.Nat.{_*_, _^_, _≤_, _<_};
 ghost use lib.ListN.{length};
-ghost use Rattle.listing.specs.Layout.{headWords};
+ghost use Rattle.words.specs.Answers.{outcome};
+ghost use Rattle.words.specs.Refusals.{termNotAbove};
+ghost use Rattle.listing.specs.Layout.{cells, cell};
+ghost use Rattle.year.specs.Year.{remaining};
+ghost use Rattle.book.specs.Layout.{lineWords, entry};
+ghost use Rattle.book.specs.Check.{admittedOnly};
+ghost use Rattle.closing.specs.Closable.{Closable};
+ghost use Rattle.peatrun.specs.Years.{mostBytes, Opened, Ran, left};
+use book::BOOK_HEAD;
+use book::ENTRY_WORDS;
+use book::LINE_WORDS;
+use fields::MOST_CELLS;
 use ledger::Issued;
 use ledger::Stated;
 use libc::STDERR_FILENO;
 use libc::STDIN_FILENO;
 use libc::STDOUT_FILENO;
+use listing::MOST_WORDS;
 use words::Outcome;
 use words::Refusal;
 
-// The longest listing, in words and in bytes; the book and the lines of the most cells.
-const MOST_WORDS: usize = 2_814;
+// The sizes of the buffers: the bytes of the longest listing, the book and the lines of the most
+// cells.
+const MOST_BYTES: usize = 4 * MOST_WORDS;
 
-const MOST_BYTES: usize = 11_256;
+const MOST_BOOK_WORDS: usize = BOOK_HEAD + ENTRY_WORDS * MOST_CELLS as usize;
 
-const MOST_BOOK_WORDS: usize = 770;
-
-const MOST_LINE_WORDS: usize = 768;
+const MOST_LINE_WORDS: usize = LINE_WORDS * MOST_CELLS as usize;
 
 // What a read to the end finds: so many bytes, or that a read failed.
 enum Input {
     Bytes(usize),
     Failed,
-}
-
-fn say(text: &[u8]) {
-    io::write_all(STDOUT_FILENO, text);
-}
-
-fn say_number(n: u64) {
-    io::print_decimal(STDOUT_FILENO, n);
 }
 
 // Reads until `buffer` is full or the input ends. A read that fails is not the end of the input.
@@ -51,117 +56,145 @@ fn read(buffer: &mut [u8]) -> Input {
     Input::Bytes(done)
 }
 
-// The word refused, its number and its place.
-fn say_refused(why: Refusal) {
-    say(b"refused ");
-    say_number(why.number as u64);
-    say(b" ");
-    say_number(why.place as u64);
-    say(b"\n");
+// Each function that prints answers whether all of it was written.
+fn say(text: &[u8]) -> bool {
+    io::write_all(STDOUT_FILENO, text)
 }
 
-fn refuse(answer: Outcome) {
-    if let Outcome::Refused(why) = answer {
-        say_refused(why);
-    }
+// A number, and what stands behind it.
+fn say_number(n: u64, then: &[u8]) -> bool {
+    io::print_decimal(STDOUT_FILENO, n) && say(then)
 }
 
-fn refuse_issue(answer: Issued) {
-    if let Issued::Refused(why) = answer {
-        say_refused(why);
-    }
+// The word refused, its number and its place. Only a listing is refused here, by 1 to 5.
+fn say_refused(why: Refusal) -> bool
+    requires { ⌜ why .number ≤ termNotAbove ⌝ }
+{
+    say(b"refused ") && say_number(why.number as u64, b" ") && say_number(why.place as u64, b"\n")
 }
 
-fn refuse_statement(answer: Stated) {
-    if let Stated::Refused(why) = answer {
-        say_refused(why);
+// The refusal that an answer is, if it is one.
+fn refuse(answer: Outcome) -> bool
+    requires { ⌜ outcome answer .number ≤ termNotAbove ⌝ }
+{
+    match answer {
+        Outcome::Done => true,
+        Outcome::Refused(why) => say_refused(why),
     }
 }
 
 // A year's line: mm oxidised, mm burned and kg over all cells, and the tonnes issued.
-fn say_year(year: u32, lines: &[u32], tonnes: u32)
+fn say_year(year: u32, lines: &[u32], tonnes: u32) -> bool
     requires { ⌜ length (now lines) ≤ 2 ^ 32 ⌝ }
 {
-    say_number(year as u64);
-    say(b" ");
-    say_number(totals::line_total(lines, 0));
-    say(b" ");
-    say_number(totals::line_total(lines, 1));
-    say(b" ");
-    say_number(totals::line_total(lines, 2));
-    say(b" ");
-    say_number(tonnes as u64);
-    say(b"\n");
+    say_number(year as u64, b" ")
+        && say_number(totals::line_total(lines, 0), b" ")
+        && say_number(totals::line_total(lines, 1), b" ")
+        && say_number(totals::line_total(lines, 2), b" ")
+        && say_number(tonnes as u64, b"\n")
 }
 
-// Closes the year after the current one, issues, and prints the year's line. Answers whether both
-// were accepted.
-fn run_year(listing: &[u32], book: &mut [u32], lines: &mut [u32], year: u32) -> bool
-    requires { ⌜ length (now lines) ≤ 2 ^ 32 ⌝ }
+// Closes the year after the current one and issues: the tonnes. Neither call is refused, by the
+// contract, so that 0 is never answered for a refusal.
+fn run_year(listing: &[u32], book: &mut [u32], lines: &mut [u32]) -> u32
+    requires { ⌜ Closable (now listing) (now book) (length (now lines)) ⌝ }
+    ensures { λ r. ⌜ Ran (now (listing .entry)) (now (book .entry)) (now (lines .entry)) (now (book .exit)) (now (lines .exit)) r ⌝ }
 {
-    let closed = ledger::close(listing, book, &mut lines[..]);
+    let closed = ledger::close(listing, book, lines);
     let Outcome::Done = closed else {
-        refuse(closed);
-        return false;
+        return 0;
     };
     let issued = ledger::issue(listing, book);
     let Issued::Tonnes(tonnes) = issued else {
-        refuse_issue(issued);
-        return false;
+        return 0;
     };
-    say_year(year, &lines[..], tonnes);
-    true
+    tonnes
 }
 
 // Every year of an opened book.
-fn run_years(listing: &[u32], book: &mut [u32]) -> bool
-    requires { ⌜ headWords ≤ length (now listing) ⌝ }
+fn run_years(listing: &[u32], book: &mut [u32], lines: &mut [u32]) -> bool
+    requires { ⌜ Opened (now listing) (now book) 0 × (lineWords * cells (now listing) ≤ length (now lines)) × (length (now lines) ≤ 2 ^ 32) ⌝ }
+    ensures { λ _. ⌜ admittedOnly (now (listing .entry)) (now (book .exit)) .done ≡ true ⌝ }
 {
     let horizon = listing::head(listing).horizon;
-    let mut lines = [0u32; MOST_LINE_WORDS];
     let mut year: u32 = 0;
     while year < horizon {
         year += 1;
-        if !run_year(listing, book, &mut lines, year) {
+        let tonnes = run_year(listing, book, lines);
+        if !say_year(year, lines, tonnes) {
             return false;
         }
     }
     true
 }
 
+// What remains of cell `i`, as its statement says: it is not refused, by the contract.
+fn remaining(listing: &[u32], book: &[u32], i: usize) -> u32
+    requires { ⌜ (admittedOnly (now listing) (now book) .done ≡ true) × (i < cells (now listing)) ⌝ }
+    ensures { λ r. ⌜ r ≡ remaining (cell (now (listing .entry)) i) (entry (now (book .entry)) i) ⌝ }
+{
+    let stated = ledger::statement(listing, book, i);
+    let Stated::Told(account) = stated else {
+        return 0;
+    };
+    account.remaining
+}
+
 // The mm that remain, over all cells.
-fn say_left(listing: &[u32], book: &[u32])
-    requires { ⌜ headWords ≤ length (now listing) ⌝ }
+fn left(listing: &[u32], book: &[u32]) -> u64
+    requires { ⌜ admittedOnly (now listing) (now book) .done ≡ true ⌝ }
+    ensures { λ r. ⌜ r ≡ left (now (listing .entry)) (now (book .entry)) ⌝ }
 {
     let cells = listing::head(listing).cells as usize;
-    let mut left: u64 = 0;
-    let mut cell: usize = 0;
-    while cell < cells {
-        let stated = ledger::statement(listing, book, cell);
-        let Stated::Told(account) = stated else {
-            refuse_statement(stated);
-            return;
-        };
-        left += account.remaining as u64;
-        cell += 1;
+    let mut sum: u64 = 0;
+    let mut i: usize = 0;
+    while i < cells {
+        sum += remaining(listing, book, i) as u64;
+        i += 1;
     }
-    say(b"left ");
-    say_number(left);
-    say(b"\n");
+    sum
+}
+
+fn say_left(listing: &[u32], book: &[u32]) -> bool
+    requires { ⌜ admittedOnly (now listing) (now book) .done ≡ true ⌝ }
+{
+    say(b"left ") && say_number(left(listing, book), b"\n")
+}
+
+// The table of an opened book.
+fn run_opened(listing: &[u32], book: &mut [u32]) -> bool
+    requires { ⌜ Opened (now listing) (now book) 0 ⌝ }
+{
+    let mut lines = [0u32; MOST_LINE_WORDS];
+    if !say(b"year ox burn kg issued\n") {
+        return false;
+    }
+    if !run_years(listing, book, &mut lines) {
+        return false;
+    }
+    say_left(listing, &book[..])
 }
 
 // The table of a listing, or its refusal.
-fn run(listing: &[u32]) {
+fn run(listing: &[u32]) -> bool {
     let mut book = [0u32; MOST_BOOK_WORDS];
     let opened = ledger::open(listing, &mut book);
     let Outcome::Done = opened else {
-        refuse(opened);
-        return;
+        return refuse(opened);
     };
-    say(b"year ox burn kg issued\n");
-    if run_years(listing, &mut book) {
-        say_left(listing, &book);
+    run_opened(listing, &mut book)
+}
+
+// What is printed for bytes that are not too many.
+fn answer(bytes: &[u8]) -> bool
+    requires { ⌜ length (now bytes) ≤ mostBytes ⌝ }
+{
+    if bytes.len() % 4 != 0 {
+        return say(b"odd bytes\n");
     }
+    let mut words = [0u32; MOST_WORDS];
+    let n = decode::decode(bytes, &mut words);
+    run(&words[0..n])
 }
 
 fn main() {
@@ -171,15 +204,15 @@ fn main() {
         io::write_all(STDERR_FILENO, b"peatrun: standard input cannot be read\n");
         return;
     };
-    if count > MOST_BYTES {
-        say(b"too long\n");
-        return;
+    let written = if count > MOST_BYTES {
+        say(b"too long\n")
+    } else {
+        answer(&buffer[0..count])
+    };
+    if !written {
+        io::write_all(
+            STDERR_FILENO,
+            b"peatrun: standard output cannot be written\n",
+        );
     }
-    if count % 4 != 0 {
-        say(b"odd bytes\n");
-        return;
-    }
-    let mut words = [0u32; MOST_WORDS];
-    let n = decode::decode(&buffer[0..count], &mut words);
-    run(&words[0..n]);
 }

@@ -4,10 +4,8 @@ ghost use Prim.Native.Nat.{_^_, _<_, _≤_};
 ghost use lib.ListN.{length};
 ghost use Rattle.book.specs.Layout.{lineWords};
 ghost use Rattle.totals.specs.Totals.{lineTotal};
+use book::LINE_WORDS;
 use words::bits;
-
-// The line words of a cell.
-const LINE_WORDS: usize = 3;
 
 // The numbers of one line of each cell, added: line 0 has mm oxidised, 1 mm burned, 2 kg.
 pub fn line_total(lines: &[u32], line: usize) -> u64

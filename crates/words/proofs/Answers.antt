@@ -117,3 +117,18 @@ within-least least most x h = leb-true least x (and-left _ _ h)
 pub within-most : (least most x : ℕ) → within least most x ≡ true → x ≤ most
 unfolding within
 within-most least most x h = leb-true x most (and-right (leb least x) _ h)
+
+-- ---- what every ending of a chain of tests has, its answer has
+
+module _ (P : Answer → Type 0) where
+  pub need-either : (ok : Bool) (n k : ℕ) (next : Answer) → P (refused n k) → P next → P (need ok n k next)
+  unfolding need
+  need-either ok n k next r h = by-test P ok next (refused n k) (λ _. h) (λ _. r)
+
+  pub unfound-either : (n place end : ℕ) (next : Answer) → P (refused n place) → P next → P (unfound n place end next)
+  unfolding unfound
+  unfound-either n place end next r h = by-test P (ltb place end) (refused n place) next (λ _. r) (λ _. h)
+
+  pub after-either : (before next : Answer) → P before → P next → P (after before next)
+  unfolding after
+  after-either before next b h = by-test P (before .done) next before (λ _. h) (λ _. b)

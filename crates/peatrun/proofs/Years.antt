@@ -1,0 +1,122 @@
+-- Which answers peatrun meets: an open is refused by the listing's own numbers alone, and no call after it is refused. Assumes nothing.
+use mathlib.Core.Path.{_≡_, sym, ap, _∙_}
+use mathlib.Core.Bool.{Bool, true, false, cond, false≢true}
+use mathlib.Core.List.{List}
+use Prim.Native.Nat.{ℕ, zero-le, _+_, _*_, _≤_, _<_}
+use native.Mathlib.Omega.{arith}
+use lib.Dec.{leb}
+use lib.ListN.{length}
+use borrow.Author.Tests.{le-leb}
+use Rattle.words.specs.Answers.{Answer, accepted, outcome, after}
+use Rattle.words.specs.Refusals.{bookShort, termNotAbove}
+use Rattle.words.specs.declared.Refusal.{Refusal}
+use Rattle.words.specs.declared.Outcome.{Outcome}
+use Rattle.words.specs.declared.Outcome.the-variants.{Done, Refused}
+use Rattle.words.proofs.Answers.{need-is, after-is}
+use Rattle.words.proofs.Signed.{by-test}
+use Rattle.fields.specs.Words.{mostCells}
+use Rattle.listing.specs.Layout.{headWords, cells, horizon, cell}
+use Rattle.listing.specs.Check.{checked}
+use Rattle.listing.proofs.Accepted.{accepted as accepted-listing}
+use Rattle.listing.proofs.Numbers.{checked-either}
+use Rattle.year.specs.Year.{remaining}
+use Rattle.book.specs.Layout.{lineWords, bookSize, year, entry}
+use Rattle.book.specs.Check.{roomChecked, fitted, admittedOnly}
+use Rattle.book.proofs.Sound.{sound}
+use Rattle.closing.specs.Closable.{Closable}
+use Rattle.closing.proofs.Closable.{closable-before, closes}
+use Rattle.ledger.specs.Calls.{Left, LeftLines, leaves, leavesLines, opening, closing, issueAnswer, issuing, issuedAs, Telling, noAccount, statedAs, accountOf, stating}
+use Rattle.ledger.specs.declared.Issued.{Issued}
+use Rattle.ledger.specs.declared.Issued.the-variants.{Tonnes}
+use Rattle.ledger.specs.declared.Issued.the-variants as issue
+use Rattle.ledger.specs.declared.Account.{Account}
+use Rattle.ledger.specs.declared.Stated.{Stated}
+use Rattle.ledger.specs.declared.Stated.the-variants.{Told}
+use Rattle.ledger.specs.declared.Stated.the-variants as state
+use Rattle.ledger.proofs.Reached.{reaches}
+use Rattle.history.proofs.After.{opened-says, closed-says, issued-says}
+use Rattle.peatrun.specs.Years.{Opened, Ran}
+
+-- ---- open, on a book with room for the most cells
+
+module _ (l b : List ℕ) (roomy : bookSize mostCells ≤ length b) where
+  room-number : checked l .done ≡ true → roomChecked l b .number ≤ termNotAbove
+  unfolding roomChecked
+  room-number done =
+      let few = accepted-listing l done .head-right .cells .1 in
+      let enough : bookSize (cells l) ≤ length b = omega arith in
+      rw (sym (need-is (leb (bookSize (cells l)) (length b)) bookShort (length b) (accepted 0) (le-leb _ _ enough))) zero-le
+
+  -- it is refused by 1 to 5 alone
+  pub opened-number : opening l b .answer .number ≤ termNotAbove
+  unfolding opening fitted after
+  opened-number = by-test (λ (a : Answer). a .number ≤ termNotAbove) (checked l .done) (roomChecked l b) (checked l) room-number (λ _. checked-either (λ (a : Answer). a .number ≤ termNotAbove) (λ n k _ h. h) zero-le l)
+
+-- and where it answered `Done` the book is opened
+pub opened : (l b book′ : List ℕ) (v : Outcome) → leaves (outcome v) book′ ≡ opening l b → v ≡ Done → Opened l book′ 0
+opened l b book′ v e d =
+    let says = opened-says l b (sym (ap (λ (m : Left). m .answer .done) (ap (λ (u : Outcome). leaves (outcome u) book′) (sym d) ∙ e))) in
+    rw (ap (λ (m : Left). m .book) e) (record { admits = says .admits; year-is = says .year-is })
+
+-- ---- a year of an opened book
+
+pub opened-cells : (l b : List ℕ) → admittedOnly l b .done ≡ true → cells l ≤ mostCells
+opened-cells l b admits = sound l b 0 0 admits .fitted .accepted .head-right .cells .1
+
+pub opened-long : (l b : List ℕ) → admittedOnly l b .done ≡ true → headWords ≤ length l
+opened-long l b admits =
+    let a = sound l b 0 0 admits .fitted .accepted in
+    omega (arith, a .long, a .parts .tables, a .parts .cells, a .parts .terms)
+
+module _ (l b : List ℕ) (t : ℕ) (o : Opened l b t) where
+  pub closable : t < horizon l → (room : ℕ) → lineWords * cells l ≤ room → Closable l b room
+  closable ahead room enough = closable-before l b room enough (rw (o .year-is) ahead) (o .admits)
+
+-- the closing answered v, and left book′ and lines′
+module _ (l b x : List ℕ) (k : Closable l b (length x)) (v : Outcome) (book′ lines′ : List ℕ) (e : leavesLines (outcome v) book′ lines′ ≡ closing l b x) where
+  closed-done : closing l b x .answer .done ≡ true
+  unfolding closing
+  closed-done = closes l b (length x) k
+
+  pub closed-not-refused : (r : Refusal) → v ≡ Refused r → ⊥
+  closed-not-refused r d = false≢true (ap (λ (a : Answer). a .done) (ap outcome (sym d)) ∙ ap (λ (m : LeftLines). m .answer .done) e ∙ closed-done)
+
+  -- the issue after it answered w, and left book″
+  module _ (w : Issued) (book″ : List ℕ) (f : leaves (issuedAs w) book″ ≡ issuing l book′) where
+    issued-done : issuing l book′ .answer .done ≡ true
+    unfolding issuing issueAnswer
+    issued-done =
+        let admits : admittedOnly l book′ .done ≡ true = rw (ap (λ (m : LeftLines). m .book) e) (closed-says l b x closed-done .admits) in
+        sym (ap (λ (a : Answer). a .done) (after-is _ (admittedOnly l book′) admits))
+
+    pub issued-not-refused : (r : Refusal) → w ≡ issue.Refused r → ⊥
+    issued-not-refused r d = false≢true (ap (λ (a : Answer). a .done) (ap issuedAs (sym d)) ∙ ap (λ (m : Left). m .answer .done) f ∙ issued-done)
+
+    pub ran : v ≡ Done → (tonnes : ℕ) → w ≡ Tonnes tonnes → Ran l b x book″ lines′ tonnes
+    ran d tonnes d′ =
+        let same : book′ ≡ closing l b x .book = ap (λ (m : LeftLines). m .book) e in
+        record {
+          closed = ap (λ (y : List ℕ). leavesLines (accepted 0) y lines′) (sym same) ∙ ap (λ (u : Outcome). leavesLines (outcome u) book′ lines′) (sym d) ∙ e;
+          issued = ap (λ (u : Issued). leaves (issuedAs u) book″) (sym d′) ∙ f ∙ ap (issuing l) same;
+        }
+
+-- the book after it is opened too, in the next year
+pub ran-opened : (l b x book′ lines′ : List ℕ) (tonnes t : ℕ) → Opened l b t → Ran l b x book′ lines′ tonnes → Opened l book′ (t + 1)
+ran-opened l b x book′ lines′ tonnes t o r =
+    let closed = closed-says l b x (sym (ap (λ (m : LeftLines). m .answer .done) (r .closed))) in
+    let issued = issued-says l (closing l b x .book) (sym (ap (λ (m : Left). m .answer .done) (r .issued))) in
+    let same = ap (λ (m : Left). m .book) (r .issued) in
+    record { admits = rw same (issued .admits); year-is = rw same (issued .year-is ∙ closed .year-is ∙ ap (λ (y : ℕ). y + 1) (o .year-is)) }
+
+-- ---- a statement of a cell of an opened book, which answered v
+
+module _ (l b : List ℕ) (i : ℕ) (admits : admittedOnly l b .done ≡ true) (lt : i < cells l) (v : Stated) (e : statedAs v ≡ stating l b i) where
+  pub stated-not-refused : (r : Refusal) → v ≡ state.Refused r → ⊥
+  unfolding stating
+  stated-not-refused r d = false≢true (ap (λ (m : Telling). m .answer .done) (ap statedAs (sym d) ∙ e) ∙ reaches l b i admits lt)
+
+  pub stated-remaining : (a : Account) → v ≡ Told a → a .remaining ≡ remaining (cell l i) (entry b i)
+  unfolding stating accountOf
+  stated-remaining a d =
+      ap (λ (m : Telling). m .account .remaining) (ap statedAs (sym d) ∙ e)
+      ∙ ap (λ (t : Bool). cond t (accountOf l b i) noAccount .remaining) (reaches l b i admits lt)

@@ -1,0 +1,2 @@
+-- What the contracts of peatrun cite.
+pub mod Years
