@@ -40,18 +40,18 @@ impl Random {
 
 /// How large a site is, and how many of the possible yearly terms it has, in percent.
 #[derive(Clone, Copy)]
-pub struct Size {
-    pub cells: u32,
-    pub strata: u32,
-    pub horizon: u32,
-    pub terms: u32,
+struct Size {
+    cells: u32,
+    strata: u32,
+    horizon: u32,
+    terms: u32,
 }
 
 /// Term 2 is the peat, which no listing states.
 const TERMS: [u32; 7] = [1, 3, 4, 5, 6, 7, 8];
 
 /// Mostly a few cells and years; one in a hundred with some figure at its end of range.
-pub fn size(random: &mut Random) -> Size {
+fn size(random: &mut Random) -> Size {
     let edge = random.once_in(100);
     let mut figure = |most, end| {
         if edge && random.once_in(2) {
@@ -68,8 +68,48 @@ pub fn size(random: &mut Random) -> Size {
     }
 }
 
+/// A good site of any size, now and then one with the greatest balances.
+pub fn any_site(random: &mut Random) -> Site {
+    if random.once_in(400) {
+        return richest(random);
+    }
+    let size = size(random);
+    site(random, size)
+}
+
+/// Nearly the most cells, all of the most peat and carbon: its balance comes near the greatest, 254,770,500 tonnes.
+fn richest(random: &mut Random) -> Site {
+    let size = Size {
+        cells: random.between(200, 256),
+        strata: random.between(1, 16),
+        horizon: random.between(10, 30),
+        terms: random.between(1, 100),
+    };
+    let row = Row {
+        drainage: 255,
+        oxidation: 1_023,
+        burning: 1_023,
+    };
+    let cell = |random: &mut Random| Cell {
+        stratum: random.between(0, size.strata - 1),
+        conversion: random.between(1, 5),
+        entered: random.between(19_000, 20_000),
+        area: 10_000,
+        density: 2_400,
+    };
+    Site {
+        horizon: size.horizon,
+        tables: vec![vec![row; size.horizon as usize]; size.strata as usize],
+        buffer: figure(random, 0, 100),
+        warming: 100,
+        methane: 100,
+        cells: (0..size.cells).map(|_| cell(random)).collect(),
+        terms: terms(random, size),
+    }
+}
+
 /// A good site of this size; a cell's stratum is drawn, so cells are not sorted by stratum.
-pub fn site(random: &mut Random, size: Size) -> Site {
+fn site(random: &mut Random, size: Size) -> Site {
     let wide = random.once_in(3);
     let ages = size.horizon;
     let tables = (0..size.strata).map(|_| (0..ages).map(|_| row(random, wide)).collect());
@@ -249,6 +289,20 @@ pub enum Call {
     Forecast { output: usize },
 }
 
+impl Call {
+    pub fn name(self) -> &'static str {
+        match self {
+            Call::Open => "open",
+            Call::Close { .. } => "close",
+            Call::Replan { .. } => "replan",
+            Call::Withdraw { .. } => "withdraw",
+            Call::Issue => "issue",
+            Call::Statement { .. } => "statement",
+            Call::Forecast { .. } => "forecast",
+        }
+    }
+}
+
 /// A call that may stand in a list; `current` is only a hint, so that enough replannings are accepted.
 pub fn call(random: &mut Random, site: &Site, current: u32) -> Call {
     let cells = site.cells.len();
@@ -258,7 +312,7 @@ pub fn call(random: &mut Random, site: &Site, current: u32) -> Call {
     };
     match random.between(0, 15) {
         0..=5 => Call::Close {
-            lines: length(random, 3 * cells),
+            lines: length(random, site.line_words()),
         },
         6..=8 => Call::Replan {
             cell,

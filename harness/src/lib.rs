@@ -1,10 +1,12 @@
-//! The proved calls over their C interface, the same calls in plain Rust, and what tests of both need.
+//! The proved calls over their C interface, the reference to hold them against, and what the tests need.
+pub mod baseline;
 pub mod generate;
-pub mod history;
-pub mod plain;
+pub mod met;
 pub mod proved;
+pub mod reference;
 pub mod sample;
 pub mod site;
+pub mod timed;
 
 /// What a call answers: number 0 is accepted, else the number and place of document 01's table.
 #[repr(C)]
@@ -41,7 +43,7 @@ pub enum Reading {
 /// Half-widths of the first class and of the second, then their stocks.
 type Discount = fn(&[u32], &[u32], &[u32], &[u32]) -> Answer;
 
-/// The calls of one implementation, so that tests and benchmark can run either in the same way.
+/// The calls of one implementation, so that tests can run either in the same way.
 pub struct Ledger {
     pub open: fn(&[u32], &mut [u32]) -> Answer,
     pub close: fn(&[u32], &mut [u32], &mut [u32]) -> Answer,
@@ -66,14 +68,14 @@ pub const PROVED: Ledger = Ledger {
     discount: proved::discount,
 };
 
-pub const PLAIN: Ledger = Ledger {
-    open: plain::open,
-    close: plain::close,
-    replan: plain::replan,
-    withdraw: plain::withdraw,
-    issue: plain::issue,
-    statement: plain::statement,
-    forecast: plain::forecast,
-    depth: plain::depth,
-    discount: plain::discount,
+pub const REFERENCE: Ledger = Ledger {
+    open: reference::open,
+    close: reference::close,
+    replan: reference::replan,
+    withdraw: reference::withdraw,
+    issue: reference::issue,
+    statement: reference::statement,
+    forecast: reference::forecast,
+    depth: reference::depth,
+    discount: reference::discount,
 };

@@ -1,7 +1,7 @@
 //! Safe wrappers over the proved library: no call asks anything of its caller but valid slices.
 use crate::{Account, Answer, Reading};
 
-mod sys {
+pub mod sys {
     use crate::{Account, Answer};
 
     // As in include/peat.h: a slice is a pointer and then its length.

@@ -37,6 +37,11 @@ pub struct Site {
     pub terms: Vec<YearlyTerm>,
 }
 
+/// The words of a book before its cells, those of a cell in it, and the line words of a cell.
+pub const BOOK_HEAD: usize = 2;
+pub const BOOK_CELL_WORDS: usize = 3;
+pub const LINE_WORDS: usize = 3;
+
 /// What one word of a listing says.
 pub enum Says<'a> {
     Head(&'a Site),
@@ -67,6 +72,15 @@ impl Site {
 
     pub fn words(&self) -> Vec<u32> {
         self.says().iter().map(Says::word).collect()
+    }
+
+    /// The words that its book needs, and its lines.
+    pub fn book_words(&self) -> usize {
+        BOOK_HEAD + BOOK_CELL_WORDS * self.cells.len()
+    }
+
+    pub fn line_words(&self) -> usize {
+        LINE_WORDS * self.cells.len()
     }
 }
 

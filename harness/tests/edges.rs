@@ -1,11 +1,11 @@
-//! Document 01's worked figures and the ends of every range and length, on the proved calls and on the plain ones.
+//! Document 01's worked figures and the ends of every range and length, on the proved calls and on the reference.
 use harness::generate::{self, Random};
 use harness::sample::{NEGATIVE_TERM, WORKED};
 use harness::site::{Cell, Row, Site};
-use harness::{Account, Answer, Ledger, Reading, PLAIN, PROVED};
+use harness::{Account, Answer, Ledger, Reading, PROVED, REFERENCE};
 
 fn both(check: impl Fn(&Ledger)) {
-    check(&PLAIN);
+    check(&REFERENCE);
     check(&PROVED);
 }
 
@@ -218,7 +218,7 @@ fn lengths() {
 fn largest() {
     let listing = generate::largest().words();
     assert_eq!(listing.len(), 2_814);
-    let mut results = [&PROVED, &PLAIN].map(|ledger| {
+    let mut results = [&PROVED, &REFERENCE].map(|ledger| {
         let mut book = Random(6).words(2 + 3 * 256);
         let mut lines = Random(7).words(3 * 256);
         let mut handed = Vec::new();

@@ -1,6 +1,6 @@
-//! The program peatrun, run as a user would: samples, bad input, and random listings beside the plain implementation.
+//! The program peatrun, run as a user would: samples, bad input, and random listings beside the reference.
 use harness::generate::{self, Random};
-use harness::{plain, sample};
+use harness::{reference, sample};
 use std::fs;
 use std::io::Write;
 use std::process::{Command, Output, Stdio};
@@ -27,14 +27,12 @@ fn peatrun(input: &[u8]) -> String {
     String::from_utf8(output.stdout).unwrap()
 }
 
-/// A read that fails: one line on standard error, nothing on standard output, status 0.
-fn says_the_failed_read(command: &mut Command) {
-    let output = run(command, &[]);
+/// A read or a write that fails: one line on standard error, nothing on standard output, status 0.
+fn says_on_standard_error(said: &str, command: &mut Command, input: &[u8]) {
+    let output = run(command, input);
     assert_eq!(output.status.code(), Some(0));
     assert_eq!(String::from_utf8(output.stdout).unwrap(), "");
-    let said = String::from_utf8(output.stderr).unwrap();
-    assert_eq!(said.lines().count(), 1, "{said:?}");
-    assert!(said.len() > 1 && said.ends_with('\n'), "{said:?}");
+    assert_eq!(String::from_utf8(output.stderr).unwrap(), said);
 }
 
 #[test]
@@ -54,10 +52,26 @@ fn samples() {
 
 #[test]
 fn failed_reads() {
+    let said = "peatrun: standard input cannot be read\n";
     // A shell closes standard input; Command can only redirect it.
-    says_the_failed_read(Command::new("sh").args(["-c", "exec \"$0\" <&-", PEATRUN]));
+    let mut closed = Command::new("sh");
+    says_on_standard_error(said, closed.args(["-c", "exec \"$0\" <&-", PEATRUN]), &[]);
     let directory = fs::File::open(sample::directory()).unwrap();
-    says_the_failed_read(Command::new(PEATRUN).stdin(directory));
+    says_on_standard_error(said, Command::new(PEATRUN).stdin(directory), &[]);
+}
+
+/// A full disk and a closed output, for a table and for each answer that is none.
+#[test]
+fn failed_writes() {
+    let said = "peatrun: standard output cannot be written\n";
+    for name in ["three-cells", "refused-4", "odd-bytes", "too-long"] {
+        let input = fs::read(sample::directory().join(format!("{name}.bin"))).unwrap();
+        for script in ["exec \"$0\" > /dev/full", "exec \"$0\" >&-"] {
+            let mut shell = Command::new("sh");
+            let command = shell.args(["-c", script, PEATRUN]).stdin(Stdio::piped());
+            says_on_standard_error(said, command, &input);
+        }
+    }
 }
 
 #[test]
@@ -69,7 +83,7 @@ fn lengths() {
     }
     assert_eq!(peatrun(&words[..4]), "refused 1 0\n");
     assert_eq!(peatrun(&words[..11_255]), "odd bytes\n");
-    assert_eq!(peatrun(&words), plain::program(&words));
+    assert_eq!(peatrun(&words), reference::program(&words));
     assert_eq!(peatrun(&[0; 11_256]), "refused 2 0\n");
     for length in [11_257, 11_260, 300_000] {
         assert_eq!(peatrun(&vec![0; length]), "too long\n");
@@ -89,26 +103,37 @@ fn input_in_parts() {
     );
 }
 
+/// What peatrun prints for random listings, good and damaged; how often it begins with each text is counted.
 #[test]
 fn random_listings() {
     let mut random = Random(8);
-    let mut refused = 0;
-    for round in 0..600 {
-        let size = generate::size(&mut random);
+    let beginnings = [
+        "year ",
+        "refused 1 ",
+        "refused 2 ",
+        "refused 3 ",
+        "refused 4 ",
+        "refused 5 ",
+    ];
+    let mut met = [0; 6];
+    for round in 0..1_000 {
         let mut words = match round % 6 {
             0 => {
                 let count = random.below(60);
                 random.words(count)
             }
-            _ => generate::site(&mut random, size).words(),
+            _ => generate::any_site(&mut random).words(),
         };
         if round % 2 == 1 {
             generate::damage(&mut random, &mut words);
         }
         let input = sample::bytes(&words);
-        let expected = plain::program(&input);
+        let expected = reference::program(&input);
         assert_eq!(peatrun(&input), expected, "{words:08X?}");
-        refused += u32::from(expected.starts_with("refused"));
+        let beginning = beginnings
+            .iter()
+            .position(|text| expected.starts_with(text));
+        met[beginning.expect("a table or a refusal by 1 to 5")] += 1;
     }
-    assert!((150..450).contains(&refused), "{refused}");
+    assert!(met.iter().all(|&count| count > 0), "{met:?}");
 }

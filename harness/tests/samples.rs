@@ -1,5 +1,5 @@
-//! The files of samples/: companions against the bytes, expected texts against plain Rust and document 01.
-use harness::{plain, sample};
+//! The files of samples/: companions against the bytes, expected texts against the reference and document 01.
+use harness::{reference, sample};
 use std::fs;
 
 fn read(name: &str, ending: &str) -> Vec<u8> {
@@ -38,9 +38,9 @@ fn companions_say_the_bytes() {
 }
 
 #[test]
-fn plain_gives_the_expected_text() {
+fn the_reference_gives_the_expected_text() {
     for name in names() {
-        let printed = plain::program(&read(&name, "bin"));
+        let printed = reference::program(&read(&name, "bin"));
         assert_eq!(printed, text(&name, "expected"), "{name}");
     }
 }

@@ -1,7 +1,7 @@
 //! Writes samples/: NAME.bin as peatrun reads it, NAME.txt in plain words, NAME.expected as it must print.
 use harness::sample::{self, NEGATIVE_TERM_TEXT, WORKED_TEXT};
 use harness::site::{Cell, Row, Says, Site, YearlyTerm};
-use harness::{generate, plain};
+use harness::{generate, reference};
 use std::fs;
 
 struct Sample {
@@ -11,7 +11,7 @@ struct Sample {
     bytes: Vec<u8>,
     /// The companion's words, each with what it says.
     words: String,
-    /// Document 01's own text, where it gives one; else the plain implementation's.
+    /// Document 01's own text, where it gives one; else the reference's.
     expected: Option<&'static str>,
 }
 
@@ -49,7 +49,7 @@ impl Sample {
     }
 
     fn write(&self) -> std::io::Result<()> {
-        let printed = plain::program(&self.bytes);
+        let printed = reference::program(&self.bytes);
         let expected = self.expected.unwrap_or(&printed);
         assert_eq!(expected, printed, "{}", self.name);
         let comments: String = self

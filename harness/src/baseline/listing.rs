@@ -1,0 +1,156 @@
+//! The listing: numbers 1 to 5, and its parts.
+use super::{bits, refusal, Answer};
+
+/// A listing with a right head and enough words.
+pub struct Listing<'a> {
+    pub strata: u32,
+    pub horizon: u32,
+    /// The buffer percentage p.
+    pub buffer: u32,
+    /// 4 × G × e, the methane factor of burned peat.
+    pub methane: u64,
+    /// Each stratum's words, one for each year of age.
+    pub tables: &'a [u32],
+    pub cells: &'a [[u32; 2]],
+    pub terms: &'a [u32],
+}
+
+impl<'a> Listing<'a> {
+    /// Numbers 1 to 3.
+    #[inline(always)]
+    fn parts(words: &'a [u32]) -> Result<Self, Answer> {
+        let &[size, figures, ref rest @ ..] = words else {
+            return Err(refusal(1, 0));
+        };
+        if !size_is_right(size) {
+            return Err(refusal(2, 0));
+        }
+        if !figures_are_right(figures) {
+            return Err(refusal(2, 1));
+        }
+        let (strata, horizon) = (bits(size, 15, 8), bits(size, 7, 0));
+        let cells = 2 * bits(size, 27, 16) as usize;
+        let Some((tables, rest)) = rest.split_at_checked((strata * horizon) as usize) else {
+            return Err(refusal(3, words.len()));
+        };
+        let Some((cells, terms)) = rest.split_at_checked(cells) else {
+            return Err(refusal(3, words.len()));
+        };
+        Ok(Listing {
+            strata,
+            horizon,
+            buffer: bits(figures, 22, 16),
+            methane: u64::from(4 * bits(figures, 15, 8) * bits(figures, 7, 0)),
+            tables,
+            cells: cells.as_chunks().0,
+            terms,
+        })
+    }
+
+    /// Numbers 1 to 5.
+    #[inline(always)]
+    pub fn read(words: &'a [u32]) -> Result<Self, Answer> {
+        let listing = Listing::parts(words)?;
+        // Every part is passed through to its end, without a branch for each word: most listings are right.
+        if !(listing.tables_right() & listing.cells_right() & listing.terms_right()) {
+            return Err(listing.first_refusal());
+        }
+        Ok(listing)
+    }
+
+    fn tables_right(&self) -> bool {
+        let right = |all, &word: &u32| all & row_is_right(word);
+        self.tables.iter().fold(true, right)
+    }
+
+    fn cells_right(&self) -> bool {
+        let right = |all, &[peat, ground]: &[u32; 2]| {
+            all & self.peat_is_right(peat) & ground_is_right(ground)
+        };
+        self.cells.iter().fold(true, right)
+    }
+
+    /// Numbers 4 and 5 in one pass.
+    fn terms_right(&self) -> bool {
+        let (mut right, mut before) = (true, 0);
+        for &word in self.terms {
+            right = right & self.term_is_right(word) & (before < order(word));
+            before = order(word);
+        }
+        right
+    }
+
+    /// The first wrong word of a listing that has one: every 4 comes before any 5.
+    #[cold]
+    fn first_refusal(&self) -> Answer {
+        let cells = 2 + self.tables.len();
+        let terms = cells + 2 * self.cells.len();
+        if let Some(i) = self.tables.iter().position(|&word| !row_is_right(word)) {
+            return refusal(4, 2 + i);
+        }
+        for (i, &[peat, ground]) in self.cells.iter().enumerate() {
+            if !self.peat_is_right(peat) {
+                return refusal(4, cells + 2 * i);
+            }
+            if !ground_is_right(ground) {
+                return refusal(4, cells + 2 * i + 1);
+            }
+        }
+        let wrong = |&word: &u32| !self.term_is_right(word);
+        if let Some(i) = self.terms.iter().position(wrong) {
+            return refusal(4, terms + i);
+        }
+        let mut pairs = self.terms.windows(2);
+        let falls = |pair: &[u32]| order(pair[1]) <= order(pair[0]);
+        refusal(5, terms + 1 + pairs.position(falls).unwrap_or_default())
+    }
+
+    fn peat_is_right(&self, word: u32) -> bool {
+        (word >> 28 == 4)
+            & (bits(word, 27, 24) < self.strata)
+            & (bits(word, 23, 16) <= self.horizon)
+            & (bits(word, 15, 0) <= 20_000)
+    }
+
+    fn term_is_right(&self, word: u32) -> bool {
+        let (term, year) = (bits(word, 27, 24), bits(word, 23, 17));
+        (word >> 28 == 6)
+            & ((term == 1) | (3 <= term) & (term <= 8))
+            & (1 <= year)
+            & (year <= self.horizon)
+    }
+}
+
+fn size_is_right(word: u32) -> bool {
+    word >> 28 == 1
+        && (1..=256).contains(&bits(word, 27, 16))
+        && (1..=16).contains(&bits(word, 15, 8))
+        && (1..=100).contains(&bits(word, 7, 0))
+}
+
+fn figures_are_right(word: u32) -> bool {
+    word >> 28 == 2
+        && bits(word, 27, 23) == 0
+        && bits(word, 22, 16) <= 100
+        && (1..=100).contains(&bits(word, 15, 8))
+        && bits(word, 7, 0) <= 100
+}
+
+fn row_is_right(word: u32) -> bool {
+    word >> 28 == 3
+}
+
+fn ground_is_right(word: u32) -> bool {
+    let (area, density) = (bits(word, 25, 12), bits(word, 11, 0));
+    (word >> 28 == 5)
+        & (bits(word, 27, 26) == 0)
+        & (1 <= area)
+        & (area <= 10_000)
+        & (1 <= density)
+        & (density <= 2_400)
+}
+
+/// Terms rise by year, then by term.
+fn order(word: u32) -> u32 {
+    bits(word, 23, 17) << 4 | bits(word, 27, 24)
+}

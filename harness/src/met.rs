@@ -1,0 +1,223 @@
+//! What the random tests met, counted. A row that is never met fails them, so that no test claims what it did not try.
+use std::fmt;
+use std::num::FpCategory;
+
+/// What the table counts: each group with its rows. A call has the numbers that document 01's table gives it, and no
+/// other may be counted for it.
+const GROUPS: &[(&str, &[&str])] = &[
+    ("open", &["accepted", "1", "2", "3", "4", "5", "6"]),
+    (
+        "close",
+        &["accepted", "1", "2", "3", "4", "5", "6", "7", "8", "9"],
+    ),
+    (
+        "replan",
+        &[
+            "accepted", "1", "2", "3", "4", "5", "6", "8", "10", "11", "12", "13",
+        ],
+    ),
+    (
+        "withdraw",
+        &["accepted", "1", "2", "3", "4", "5", "6", "8", "10", "11"],
+    ),
+    ("issue", &["accepted", "1", "2", "3", "4", "5", "6", "8"]),
+    (
+        "statement",
+        &["accepted", "1", "2", "3", "4", "5", "6", "8", "10"],
+    ),
+    (
+        "forecast",
+        &["accepted", "1", "2", "3", "4", "5", "6", "15"],
+    ),
+    ("core", &["accepted", "16", "17"]),
+    ("levels", &["accepted", "16", "17"]),
+    ("missing", &["18"]),
+    ("discount", &["accepted", "19", "20"]),
+    ("2 at", &["word 0", "word 1"]),
+    (
+        "4 at",
+        &[
+            "a table's word",
+            "a cell's first word",
+            "a cell's second word",
+            "a term",
+        ],
+    ),
+    (
+        "8 at",
+        &[
+            "the year",
+            "the tonnes issued",
+            "a plan year",
+            "oxidised mm",
+            "burned mm",
+        ],
+    ),
+    ("16 at", &["place 0", "place 1"]),
+    ("17 at", &["place 0", "place 1", "place 2"]),
+    ("20 at", &["place 0", "place 1", "place 2", "place 3"]),
+    (
+        "claim asked",
+        &["depth", "kilograms", "dry after a fire", "issues"],
+    ),
+    (
+        "fire",
+        &[
+            "left exactly the guard",
+            "of a cell behind a withdrawn neighbour of another stratum",
+        ],
+    ),
+    (
+        "balance between issues",
+        &["fell", "fell and rose", "fell and rose above all before"],
+    ),
+    (
+        "balance at an issue",
+        &[
+            "below 0",
+            "0 to 1,000,000 t",
+            "to 100,000,000 t",
+            "to 254,770,500 t",
+        ],
+    ),
+    (
+        "list of calls",
+        &[
+            "empty",
+            "with no issue",
+            "with a balance never above 0",
+            "with tonnes issued",
+        ],
+    ),
+    (
+        "listing with",
+        &[
+            "1 cell",
+            "256 cells",
+            "1 stratum",
+            "16 strata",
+            "1 year",
+            "100 years",
+            "no term",
+            "700 terms",
+        ],
+    ),
+    ("core of", FLOATS),
+    ("level of", FLOATS),
+    ("discount of", &["0", "1 to 9,999", "10,000"]),
+];
+
+/// The classes of binary32 numbers; `class` says which a number is in.
+const FLOATS: &[&str] = &[
+    "0",
+    "-0",
+    "a subnormal above 0",
+    "a subnormal below 0",
+    "20",
+    "the next below 20",
+    "the next above 20",
+    "-100",
+    "the next below -100",
+    "the next above -100",
+    "3,000",
+    "the next below 3,000",
+    "the next above 3,000",
+    "infinity",
+    "-infinity",
+    "a quiet NaN",
+    "a signalling NaN",
+    "another number",
+];
+
+/// The first bit of the fraction, which tells a quiet NaN from a signalling one.
+const QUIET: u32 = 1 << 22;
+
+/// The class of a number, by its name in the table.
+pub fn class(number: f32) -> &'static str {
+    let ends = [(20.0f32, 4), (-100.0, 7), (3_000.0, 10)];
+    for (end, row) in ends {
+        for (i, neighbour) in [end, end.next_down(), end.next_up()].iter().enumerate() {
+            if number == *neighbour {
+                return FLOATS[row + i];
+            }
+        }
+    }
+    let row = match (number.is_sign_negative(), number.classify()) {
+        (false, FpCategory::Zero) => 0,
+        (true, FpCategory::Zero) => 1,
+        (false, FpCategory::Subnormal) => 2,
+        (true, FpCategory::Subnormal) => 3,
+        (false, FpCategory::Infinite) => 13,
+        (true, FpCategory::Infinite) => 14,
+        (_, FpCategory::Nan) if number.to_bits() & QUIET != 0 => 15,
+        (_, FpCategory::Nan) => 16,
+        (_, FpCategory::Normal) => 17,
+    };
+    FLOATS[row]
+}
+
+/// The counts, group by group.
+pub struct Met(Vec<Vec<u64>>);
+
+impl Default for Met {
+    fn default() -> Met {
+        Met(GROUPS.iter().map(|(_, rows)| vec![0; rows.len()]).collect())
+    }
+}
+
+impl Met {
+    /// Counts a row that the table has.
+    pub fn count(&mut self, group: &str, row: &str) {
+        let found = GROUPS.iter().position(|(name, _)| *name == group);
+        let group = found.unwrap_or_else(|| panic!("{group} is not in the table"));
+        let (name, rows) = GROUPS[group];
+        let found = rows.iter().position(|name| *name == row);
+        let row = found.unwrap_or_else(|| panic!("{name}: {row} is not in the table"));
+        self.0[group][row] += 1;
+    }
+
+    /// Counts what a call answered: accepted, or refused by a number.
+    pub fn answer(&mut self, call: &str, number: u32) {
+        match number {
+            0 => self.count(call, "accepted"),
+            _ => self.count(call, &number.to_string()),
+        }
+    }
+
+    pub fn add(&mut self, other: &Met) {
+        let counts = self.0.iter_mut().flatten();
+        for (count, more) in counts.zip(other.0.iter().flatten()) {
+            *count += more;
+        }
+    }
+
+    /// How many answers were counted: the groups down to the discount are calls.
+    pub fn cases(&self) -> u64 {
+        let calls = GROUPS.iter().position(|(name, _)| *name == "discount");
+        self.0[..=calls.unwrap()].iter().flatten().sum()
+    }
+
+    /// The rows that were never met.
+    pub fn never(&self) -> Vec<String> {
+        let mut never = Vec::new();
+        for ((name, rows), counts) in GROUPS.iter().zip(&self.0) {
+            let missing = rows.iter().zip(counts).filter(|(_, count)| **count == 0);
+            never.extend(missing.map(|(row, _)| format!("{name}: {row}")));
+        }
+        never
+    }
+}
+
+impl fmt::Display for Met {
+    fn fmt(&self, f: &mut fmt::Formatter) -> fmt::Result {
+        for ((name, rows), counts) in GROUPS.iter().zip(&self.0) {
+            write!(f, "{name:<23}")?;
+            for (i, (row, count)) in rows.iter().zip(counts).enumerate() {
+                let comma = if i == 0 { "" } else { ", " };
+                write!(f, "{comma}{row}: {count}")?;
+            }
+            writeln!(f)?;
+        }
+        Ok(())
+    }
+}
