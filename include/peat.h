@@ -4,9 +4,9 @@
  * Building: `rt staticlib capi` writes target/staticlib/libcapi.a, then
  *     cc x.c -Iinclude -Ltarget/staticlib -lcapi
  *
- * Document 01 of the project describes listing and book word by word, and every rule. In short: a listing holds a
- * project's figures, a book its state; both are arrays of 32-bit words that the caller owns. The library keeps
- * nothing between calls and allocates nothing.
+ * docs/RULES.md describes listing, book and lines bit by bit, and every rule. In short: a listing holds a project's
+ * figures, a book its state; both are arrays of 32-bit words that the caller owns. The library keeps nothing between
+ * calls and allocates nothing.
  *
  * Slices. An array is passed as a pointer and its length in elements, not bytes. Any length and any contents get an
  * answer, but the caller sees to it that

@@ -30,14 +30,16 @@ pub fn bytes(words: &[u32]) -> Vec<u8> {
     words.iter().flat_map(|word| word.to_le_bytes()).collect()
 }
 
-/// The words of a companion: eight hexadecimal digits at the start of each line that is no comment.
+/// The words of a companion: eight hexadecimal digits on each line, before its remark.
 pub fn words(companion: &str) -> Vec<u32> {
-    let lines = companion.lines().filter(|line| !line.starts_with('#'));
-    lines
-        .map(|line| {
-            let digits = line.split_whitespace().next().unwrap_or_default();
-            assert_eq!(digits.len(), 8, "eight digits at the start of: {line}");
-            u32::from_str_radix(digits, 16).expect("hexadecimal digits")
+    let lines = companion
+        .lines()
+        .map(|line| line.split('#').next().unwrap());
+    let words = lines.map(str::trim).filter(|word| !word.is_empty());
+    words
+        .map(|word| {
+            assert_eq!(word.len(), 8, "eight digits: {word}");
+            u32::from_str_radix(word, 16).expect("hexadecimal digits")
         })
         .collect()
 }

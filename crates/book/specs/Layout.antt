@@ -1,4 +1,5 @@
--- Document 01, "Book and calls": where the words of a book b stand, and what they say. No other definition names their places or bits.
+-- Document 01, "Book and calls": where the words of a book b stand, and what they say. Check.antt goes through them place by place, and
+-- names the zero bits of kind 10; closing's `wordsAfter` keeps the first of a cell's words as it is.
 use Prim.Native.Nat.{ℕ, _+_, _*_, _^_}
 use mathlib.Core.Bool.{Bool, cond}
 use mathlib.Core.List.{List, [], _∷_}

@@ -1,4 +1,4 @@
--- Document 01, "Project listing": the fields of each kind of word, w. No other definition names their bits.
+-- Document 01, "Project listing": the fields of each kind of word, w. The bits that must be zero are named in Words.antt.
 use Prim.Native.Nat.{ℕ}
 use lib.IntN.{ℤ}
 use Rattle.words.specs.Bits.{bits, signedBits}

@@ -50,7 +50,7 @@ fn resting_years(plan: u32, horizon: u32) -> u32
 }
 
 // One cell's years: adds its kg of each year to the year's number, and answers its entry after the
-// last. Its kg to date goes along, so that a year works it out once.
+// last. A year's kg is the kg to date after it less the kg to date that was carried along.
 fn run_cell(listing: &[u32], h: Head, i: usize, output: &mut [u64]) -> Entry
     requires { ⌜ Running (now listing) h i (now output) ⌝ }
     ensures { λ e. ⌜ e ≡ entryAfter (now (listing .entry)) i (horizon (now (listing .entry))) ⌝ }

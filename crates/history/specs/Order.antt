@@ -1,5 +1,6 @@
 -- Beyond document 01, about a fault that users met (a release took the table row of the cell before): a cell's year goes by its own words,
--- and so not by the place where the cell stands. `OwnWords` and `OrderFree` are the theorems; proofs/Order.antt proves them.
+-- and so not by the place where the cell stands. The theorems are `OwnWords`, which proofs/OwnWords.antt proves, and `OrderFree`, which
+-- proofs/Order.antt proves.
 use mathlib.Core.Path.{_≡_}
 use mathlib.Core.Bool.{true, false, cond}
 use mathlib.Core.List.{List}

@@ -1,4 +1,4 @@
--- Document 01, "Project listing": where the words of a listing l stand. No other definition names their places.
+-- Document 01, "Project listing": where the words of a listing l stand. Check.antt names words 0 and 1 again, to refuse them at their places.
 use Prim.Native.Nat.{ℕ, _+_, _-_, _*_}
 use mathlib.Core.List.{List}
 use lib.ListN.{getD}

@@ -20,7 +20,7 @@ impl Sample {
         let words: Vec<u32> = says.iter().map(Says::word).collect();
         let lines = says
             .iter()
-            .map(|says| format!("{:08X} {}\n", says.word(), says.text()));
+            .map(|says| format!("{:08X} # {}\n", says.word(), says.text()));
         Sample {
             name,
             about,
