@@ -1,2 +1,3 @@
 -- Laws that the proofs of this crate cite.
+pub mod Longest
 pub mod Years
