@@ -2,13 +2,14 @@
 use mathlib.Core.Path.{_≡_, sym, ap, _∙_}
 use mathlib.Core.Bool.{Bool, true, false, cond, false≢true}
 use mathlib.Core.List.{List}
-use Prim.Native.Nat.{ℕ, zero-le, _+_, _*_, _≤_, _<_}
+use Prim.Native.Nat.{ℕ, _+_, _*_, _≤_, _<_}
+use native.Mathlib.Numerals.{add-one}
 use native.Mathlib.Omega.{arith}
 use lib.Dec.{leb}
 use lib.ListN.{length}
 use borrow.Author.Tests.{le-leb}
 use Rattle.words.specs.Answers.{Answer, accepted, outcome, after}
-use Rattle.words.specs.Refusals.{bookShort, termNotAbove}
+use Rattle.words.specs.Refusals.{bookShort}
 use Rattle.words.specs.declared.Refusal.{Refusal}
 use Rattle.words.specs.declared.Outcome.{Outcome}
 use Rattle.words.specs.declared.Outcome.the-variants.{Done, Refused}
@@ -35,25 +36,36 @@ use Rattle.ledger.specs.declared.Stated.the-variants.{Told}
 use Rattle.ledger.specs.declared.Stated.the-variants as state
 use Rattle.ledger.proofs.Reached.{reaches}
 use Rattle.history.proofs.After.{opened-says, closed-says, issued-says}
-use Rattle.peatrun.specs.Years.{Opened, Ran}
+use Rattle.peatrun.specs.Years.{OfListing, InYear, Ran, Slices, ranFor}
 
 -- ---- open, on a book with room for the most cells
 
+-- an answer that is accepted, or refused by 1 to 5
+abbrev Listed : Answer → Type 0
+Listed a = a .done ≡ false → OfListing a
+
 module _ (l b : List ℕ) (roomy : bookSize mostCells ≤ length b) where
-  room-number : checked l .done ≡ true → roomChecked l b .number ≤ termNotAbove
+  room-listed : checked l .done ≡ true → Listed (roomChecked l b)
   unfolding roomChecked
-  room-number done =
+  room-listed done =
       let few = accepted-listing l done .head-right .cells .1 in
       let enough : bookSize (cells l) ≤ length b = omega arith in
-      rw (sym (need-is (leb (bookSize (cells l)) (length b)) bookShort (length b) (accepted 0) (le-leb _ _ enough))) zero-le
+      rw (sym (need-is (leb (bookSize (cells l)) (length b)) bookShort (length b) (accepted 0) (le-leb _ _ enough))) (λ h. absurd (false≢true (sym h)))
 
-  -- it is refused by 1 to 5 alone
-  pub opened-number : opening l b .answer .number ≤ termNotAbove
+  -- it is refused by the listing's own numbers alone
+  pub opened-listed : Listed (opening l b .answer)
   unfolding opening fitted after
-  opened-number = by-test (λ (a : Answer). a .number ≤ termNotAbove) (checked l .done) (roomChecked l b) (checked l) room-number (λ _. checked-either (λ (a : Answer). a .number ≤ termNotAbove) (λ n k _ h. h) zero-le l)
+  opened-listed =
+      by-test Listed (checked l .done) (roomChecked l b) (checked l) room-listed
+      (λ _. checked-either Listed (λ n k low high h. record { refused = h; least = low; most = high }) (λ h. absurd (false≢true (sym h))) l)
+
+  pub opened-refused : (book′ : List ℕ) (v : Outcome) → leaves (outcome v) book′ ≡ opening l b → (r : Refusal) → v ≡ Refused r → OfListing (outcome v)
+  opened-refused book′ v e r d =
+      let same = ap (λ (m : Left). m .answer) e in
+      rw same (opened-listed (ap (λ (a : Answer). a .done) (sym same ∙ ap outcome d)))
 
 -- and where it answered `Done` the book is opened
-pub opened : (l b book′ : List ℕ) (v : Outcome) → leaves (outcome v) book′ ≡ opening l b → v ≡ Done → Opened l book′ 0
+pub opened : (l b book′ : List ℕ) (v : Outcome) → leaves (outcome v) book′ ≡ opening l b → v ≡ Done → InYear l book′ 0
 opened l b book′ v e d =
     let says = opened-says l b (sym (ap (λ (m : Left). m .answer .done) (ap (λ (u : Outcome). leaves (outcome u) book′) (sym d) ∙ e))) in
     rw (ap (λ (m : Left). m .book) e) (record { admits = says .admits; year-is = says .year-is })
@@ -68,9 +80,9 @@ opened-long l b admits =
     let a = sound l b 0 0 admits .fitted .accepted in
     omega (arith, a .long, a .parts .tables, a .parts .cells, a .parts .terms)
 
-module _ (l b : List ℕ) (t : ℕ) (o : Opened l b t) where
-  pub closable : t < horizon l → (room : ℕ) → lineWords * cells l ≤ room → Closable l b room
-  closable ahead room enough = closable-before l b room enough (rw (o .year-is) ahead) (o .admits)
+module _ (l b : List ℕ) (t : ℕ) (o : InYear l b t) where
+  pub closable : t < horizon l → (room : ℕ) → room ≡ lineWords * cells l → Closable l b room
+  closable ahead room enough = closable-before l b room (omega arith) (rw (o .year-is) ahead) (o .admits)
 
 -- the closing answered v, and left book′ and lines′
 module _ (l b x : List ℕ) (k : Closable l b (length x)) (v : Outcome) (book′ lines′ : List ℕ) (e : leavesLines (outcome v) book′ lines′ ≡ closing l b x) where
@@ -100,13 +112,22 @@ module _ (l b x : List ℕ) (k : Closable l b (length x)) (v : Outcome) (book′
           issued = ap (λ (u : Issued). leaves (issuedAs u) book″) (sym d′) ∙ f ∙ ap (issuing l) same;
         }
 
--- the book after it is opened too, in the next year
-pub ran-opened : (l b x book′ lines′ : List ℕ) (tonnes t : ℕ) → Opened l b t → Ran l b x book′ lines′ tonnes → Opened l book′ (t + 1)
+-- the book after it is in the next year
+pub ran-opened : (l b x book′ lines′ : List ℕ) (tonnes t : ℕ) → InYear l b t → Ran l b x book′ lines′ tonnes → InYear l book′ (t + 1)
 ran-opened l b x book′ lines′ tonnes t o r =
     let closed = closed-says l b x (sym (ap (λ (m : LeftLines). m .answer .done) (r .closed))) in
     let issued = issued-says l (closing l b x .book) (sym (ap (λ (m : Left). m .answer .done) (r .issued))) in
     let same = ap (λ (m : Left). m .book) (r .issued) in
     record { admits = rw same (issued .admits); year-is = rw same (issued .year-is ∙ closed .year-is ∙ ap (λ (y : ℕ). y + 1) (o .year-is)) }
+
+-- after t years and one more: book and lines are those of t + 1
+pub ran-next : (l : List ℕ) (s : Slices) (t : ℕ) (b x book′ lines′ : List ℕ) (tonnes : ℕ) → b ≡ ranFor l s t .book → x ≡ ranFor l s t .lines → Ran l b x book′ lines′ tonnes →
+    (book′ ≡ ranFor l s (t + 1) .book) × (lines′ ≡ ranFor l s (t + 1) .lines)
+unfolding ranFor
+ran-next l s t b x book′ lines′ tonnes b-is x-is r = (
+  rw (add-one, sym b-is, sym x-is) (ap (λ (m : Left). m .book) (r .issued)),
+  rw (add-one, sym b-is, sym x-is) (ap (λ (m : LeftLines). m .lines) (r .closed)),
+)
 
 -- ---- a statement of a cell of an opened book, which answered v
 

@@ -1,11 +1,12 @@
--- Document 01, "Forecast, readings, discount, program": what peatrun works out. It closes every year and issues after each; what it prints
+-- Document 01, "Forecast, readings, discount, program": what peatrun works out. It closes every year and issues after each. What it prints
 -- is tested, and not stated here.
-use Prim.Native.Nat.{ℕ, _+_, _*_, _≤_}
+use Prim.Native.Nat.{ℕ, zero, suc, _+_, _*_, _≤_}
 use mathlib.Core.Path.{_≡_}
-use mathlib.Core.Bool.{true}
+use mathlib.Core.Bool.{true, false}
 use mathlib.Core.List.{List}
 use lib.ListN.{length}
-use Rattle.words.specs.Answers.{accepted}
+use Rattle.words.specs.Answers.{Answer, accepted}
+use Rattle.words.specs.Refusals.{tooFewWords, termNotAbove}
 use Rattle.fields.specs.Words.{mostCells, mostStrata, mostHorizon}
 use Rattle.listing.specs.Layout.{headWords, cellWords, cells, cell}
 use Rattle.listing.specs.Check.{checked}
@@ -23,8 +24,14 @@ mostBytes = 4 * (headWords + mostStrata * mostHorizon + cellWords * mostCells + 
 abbrev pub Longest : Type 0
 Longest = (l : List ℕ) → checked l .done ≡ true → 4 * length l ≤ mostBytes
 
--- a book b of listing l that every call accepts, in year t
-pub record Opened (l b : List ℕ) (t : ℕ) : Type 0 where
+-- a refusal by one of the listing's own numbers, 1 to 5
+pub record OfListing (a : Answer) : Type 0 where
+  pub refused : a .done ≡ false
+  pub least : tooFewWords ≤ a .number
+  pub most : a .number ≤ termNotAbove
+
+-- book b of listing l passes the tests 1 to 8, and is in year t
+pub record InYear (l b : List ℕ) (t : ℕ) : Type 0 where
   pub admits : admittedOnly l b .done ≡ true
   pub year-is : year b ≡ t
 
@@ -32,6 +39,19 @@ pub record Opened (l b : List ℕ) (t : ℕ) : Type 0 where
 pub record Ran (l b x book′ lines′ : List ℕ) (tonnes : ℕ) : Type 0 where
   pub closed : leavesLines (accepted 0) (closing l b x .book) lines′ ≡ closing l b x
   pub issued : leaves (accepted tonnes) book′ ≡ issuing l (closing l b x .book)
+
+-- book and lines buffer
+pub record Slices : Type 0 where
+  pub book : List ℕ
+  pub lines : List ℕ
+
+-- what t years leave: each is closed, and issued after it
+unfoldable pub ranFor : List ℕ → Slices → ℕ → Slices
+ranFor l s zero = s
+ranFor l s (suc t) =
+    let before = ranFor l s t in
+    let closed = closing l (before .book) (before .lines) in
+    record { book = issuing l (closed .book) .book; lines = closed .lines }
 
 -- mm remaining, over all cells
 unfoldable pub left : List ℕ → List ℕ → ℕ

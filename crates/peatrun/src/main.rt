@@ -5,13 +5,13 @@ ghost use mathlib.Core.Bool.{true};
 ghost use Prim.Native.Nat.{_*_, _^_, _≤_, _<_};
 ghost use lib.ListN.{length};
 ghost use Rattle.words.specs.Answers.{outcome};
-ghost use Rattle.words.specs.Refusals.{termNotAbove};
-ghost use Rattle.listing.specs.Layout.{cells, cell};
+ghost use Rattle.words.specs.Refusals.{tooFewWords, termNotAbove};
+ghost use Rattle.listing.specs.Layout.{cells, horizon, cell};
 ghost use Rattle.year.specs.Year.{remaining};
 ghost use Rattle.book.specs.Layout.{lineWords, entry};
 ghost use Rattle.book.specs.Check.{admittedOnly};
 ghost use Rattle.closing.specs.Closable.{Closable};
-ghost use Rattle.peatrun.specs.Years.{mostBytes, Opened, Ran, left};
+ghost use Rattle.peatrun.specs.Years.{mostBytes, OfListing, InYear, Ran, ranFor, left};
 use book::BOOK_HEAD;
 use book::ENTRY_WORDS;
 use book::LINE_WORDS;
@@ -68,14 +68,14 @@ fn say_number(n: u64, then: &[u8]) -> bool {
 
 // The word refused, its number and its place. Only a listing is refused here, by 1 to 5.
 fn say_refused(why: Refusal) -> bool
-    requires { ⌜ why .number ≤ termNotAbove ⌝ }
+    requires { ⌜ (tooFewWords ≤ why .number) × (why .number ≤ termNotAbove) ⌝ }
 {
     say(b"refused ") && say_number(why.number as u64, b" ") && say_number(why.place as u64, b"\n")
 }
 
-// The refusal that an answer is, if it is one.
+// The refusal that an answer is.
 fn refuse(answer: Outcome) -> bool
-    requires { ⌜ outcome answer .number ≤ termNotAbove ⌝ }
+    requires { ⌜ OfListing (outcome answer) ⌝ }
 {
     match answer {
         Outcome::Done => true,
@@ -111,10 +111,11 @@ fn run_year(listing: &[u32], book: &mut [u32], lines: &mut [u32]) -> u32
     tonnes
 }
 
-// Every year of an opened book.
+// Every year of a book in year 0, unless a line cannot be written.
 fn run_years(listing: &[u32], book: &mut [u32], lines: &mut [u32]) -> bool
-    requires { ⌜ Opened (now listing) (now book) 0 × (lineWords * cells (now listing) ≤ length (now lines)) × (length (now lines) ≤ 2 ^ 32) ⌝ }
+    requires { ⌜ InYear (now listing) (now book) 0 × (length (now lines) ≡ lineWords * cells (now listing)) ⌝ }
     ensures { λ _. ⌜ admittedOnly (now (listing .entry)) (now (book .exit)) .done ≡ true ⌝ }
+    ensures { λ r. ⌜ (r ≡ true → now (book .exit) ≡ ranFor (now (listing .entry)) (record { book = now (book .entry); lines = now (lines .entry) }) (horizon (now (listing .entry))) .book) ⌝ }
 {
     let horizon = listing::head(listing).horizon;
     let mut year: u32 = 0;
@@ -128,7 +129,8 @@ fn run_years(listing: &[u32], book: &mut [u32], lines: &mut [u32]) -> bool
     true
 }
 
-// What remains of cell `i`, as its statement says: it is not refused, by the contract.
+// What remains of cell `i`, by its statement. The book passes the tests and has the cell, so that
+// the statement is not refused.
 fn remaining(listing: &[u32], book: &[u32], i: usize) -> u32
     requires { ⌜ (admittedOnly (now listing) (now book) .done ≡ true) × (i < cells (now listing)) ⌝ }
     ensures { λ r. ⌜ r ≡ remaining (cell (now (listing .entry)) i) (entry (now (book .entry)) i) ⌝ }
@@ -161,15 +163,15 @@ fn say_left(listing: &[u32], book: &[u32]) -> bool
     say(b"left ") && say_number(left(listing, book), b"\n")
 }
 
-// The table of an opened book.
-fn run_opened(listing: &[u32], book: &mut [u32]) -> bool
-    requires { ⌜ Opened (now listing) (now book) 0 ⌝ }
+// The table of an opened book, with room for its lines.
+fn run_opened(listing: &[u32], book: &mut [u32], lines: &mut [u32]) -> bool
+    requires { ⌜ InYear (now listing) (now book) 0 × (lineWords * cells (now listing) ≤ length (now lines)) ⌝ }
 {
-    let mut lines = [0u32; MOST_LINE_WORDS];
     if !say(b"year ox burn kg issued\n") {
         return false;
     }
-    if !run_years(listing, book, &mut lines) {
+    let end = LINE_WORDS * listing::head(listing).cells as usize;
+    if !run_years(listing, book, &mut lines[0..end]) {
         return false;
     }
     say_left(listing, &book[..])
@@ -182,7 +184,8 @@ fn run(listing: &[u32]) -> bool {
     let Outcome::Done = opened else {
         return refuse(opened);
     };
-    run_opened(listing, &mut book)
+    let mut lines = [0u32; MOST_LINE_WORDS];
+    run_opened(listing, &mut book, &mut lines)
 }
 
 // What is printed for bytes that are not too many.

@@ -1,10 +1,18 @@
 -- `peatrun::refuse` prints a refusal of the numbers that it was promised. Assumes nothing.
-use mathlib.Core.Path.{ap}
+use mathlib.Core.Path.{_≡_, ap}
+use Prim.Native.Nat.{_≤_}
 use borrow.Author.Needs.{needs}
 use Rattle.words.specs.Answers.{outcome}
+use Rattle.words.specs.Refusals.{tooFewWords, termNotAbove}
+use Rattle.words.specs.declared.Refusal.{Refusal}
 use Rattle.words.specs.declared.Outcome.{Outcome}
+use Rattle.words.specs.declared.Outcome.the-variants.{Refused}
+use Rattle.peatrun.specs.Years.{OfListing}
 use Rattle.peatrun.proofs.refuse.Statement.{statement}
 use Rattle.peatrun.proofs.refuse.Tie as tie
+
+promised : (v : Outcome) (r : Refusal) → v ≡ Refused r → OfListing (outcome v) → (tooFewWords ≤ r .number) × (r .number ≤ termNotAbove)
+promised v r e o = let number = ap (λ (u : Outcome). outcome u .number) e in (rw number at (o .least), rw number at (o .most))
 
 pub refuse-spec : {M : Type 1} → statement M
 refuse-spec =
@@ -12,6 +20,6 @@ refuse-spec =
     (tie.spec
     (λ c. search needs)
     (λ c. search needs)
-    (λ c κs. rw (ap (λ (v : Outcome). outcome v .number) (c .before .answer .given .1)) at (c .before .before .before .pre))
+    (λ c κs. promised _ _ (c .before .answer .given .1) (c .before .before .before .pre))
     (λ c. search needs)
     (λ c. search needs))
