@@ -3,6 +3,7 @@
  *
  * Building: `rt staticlib capi` writes target/staticlib/libcapi.a, then
  *     cc x.c -Iinclude -Ltarget/staticlib -lcapi
+ * on Linux, x86-64. harness/tests/header.c is an example of every call.
  *
  * docs/RULES.md describes listing, book and lines bit by bit, and every rule. In short: a listing holds a project's
  * figures, a book its state; both are arrays of 32-bit words that the caller owns. The library keeps nothing between
@@ -16,7 +17,8 @@
  * Elements beyond those needed are left as they are.
  *
  * Refusals. Number 0 is accepted. Any other number is a refusal: nothing has been written to any slice, and every
- * figure of the answer is 0. The tests run in the order of this table, and the first that fails is answered:
+ * figure of the answer is 0. The tests run in the order of this table, and the first that fails is answered; where one
+ * number has several places, the lowest:
  *
  *   no.  met by                condition                                               place
  *    1   every listing         fewer than 2 words                                      0
@@ -55,7 +57,7 @@
 extern "C" {
 #endif
 
-/* What a call answers. `value` is described at each call; it is 0 where nothing is said of it. */
+/* What a call answers; place 0 where it is accepted. `value` is described at each call; 0 where nothing is said. */
 typedef struct {
     uint32_t number;
     uint32_t value;
@@ -80,7 +82,7 @@ peat_answer peat_open(const uint32_t *listing, size_t listing_len, uint32_t *boo
 peat_answer peat_close(const uint32_t *listing, size_t listing_len, uint32_t *book, size_t book_len, uint32_t *lines,
                        size_t lines_len);
 
-/* Gives a cell that is not yet converted another plan year, or 0 for never. Cells count from 0. */
+/* Sets the plan year of a cell that is not yet converted, 0 for never. Cells count from 0. */
 peat_answer peat_replan(const uint32_t *listing, size_t listing_len, uint32_t *book, size_t book_len, size_t cell,
                         uint32_t year);
 

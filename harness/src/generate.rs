@@ -365,9 +365,15 @@ pub fn reading(random: &mut Random) -> Reading {
         0 => Reading::Missing,
         1..=10 => Reading::Core(float(random)),
         11..=14 => Reading::Levels(float(random), float(random)),
-        _ => {
+        15..=18 => {
             let base = float(random);
             Reading::Levels(base + random.between(0, 21_000) as f32 / 1_000.0, base)
+        }
+        _ => {
+            // Levels of few digits, so that a difference of whole mm can be met, at the ends of its range.
+            let base = random.between(0, 1_000) as f32 / 8.0;
+            let depth = random.pick(&[-0.001, -0.0005, 0.0, 20.0, 20.0005, 20.001, 20.002]);
+            Reading::Levels(base + depth, base)
         }
     }
 }
@@ -384,6 +390,12 @@ pub fn pools(random: &mut Random) -> [Vec<u32>; 4] {
     });
     if random.once_in(3) {
         lists[random.below(2) + 2].fill(0);
+    }
+    if random.once_in(20) {
+        // Just at the end of a case: √Q is 3/20 of D, or all of it.
+        let unit = random.between(1, 1_000);
+        let (width, distance) = random.pick(&[(3 * unit, 20 * unit), (unit, unit)]);
+        return [vec![width], vec![0], vec![distance], vec![0]];
     }
     if random.once_in(10) {
         let length = random.below(8);

@@ -42,6 +42,20 @@ pub const BOOK_HEAD: usize = 2;
 pub const BOOK_CELL_WORDS: usize = 3;
 pub const LINE_WORDS: usize = 3;
 
+/// The part of a listing in which the word at a place stands, by the sizes in its word 0.
+pub fn part(listing: &[u32], place: usize) -> &'static str {
+    let [cells, strata, horizon] =
+        [(16, 0xFFF), (8, 0xFF), (0, 0xFF)].map(|(low, mask)| (listing[0] >> low & mask) as usize);
+    let first_cell = 2 + strata * horizon;
+    if place < first_cell {
+        "a table's word"
+    } else if place >= first_cell + 2 * cells {
+        "a term"
+    } else {
+        ["a cell's first word", "a cell's second word"][(place - first_cell) % 2]
+    }
+}
+
 /// What one word of a listing says.
 pub enum Says<'a> {
     Head(&'a Site),

@@ -217,7 +217,7 @@ Stratum 0 lies at the canal and is drained to 80 cm, stratum 1 behind it to 50 c
 Cell 0 is converted in year 1 and burns 100 mm then; the guard of 400 mm keeps the other 100 mm.
 Cell 1 is converted in year 2, so year 2 is its age 1.
 Cell 2 has 250 mm: below 300 mm it is not peat, and loses nothing.
-Terms: avoided deforestation (1) and logged blocks (4) add, displaced conversion (5) and extraction (6) take away.";
+Terms: avoided deforestation (1) and harvest areas (4) add, displaced conversion (5) and extraction (6) take away.";
 
 const UNSORTED_ABOUT: &str = "\
 Seven cells of four strata, not sorted by stratum; each stratum has figures of its own.

@@ -1,7 +1,7 @@
 //! The reference: the peat ledger in plain Rust, to be read beside document 01 ("the paper").
 //!
-//! It is written from document 01 alone and shares nothing with the other implementations. All
-//! arithmetic is in i128: words are converted when read, and back when written or answered.
+//! It is written from document 01 alone and shares no code with the other implementations, only
+//! the types of the answers. Words are converted to i128 when read, and back when written.
 //! In the order of the paper:
 //!
 //! - `words`: bits, kinds and numbers of a word;
