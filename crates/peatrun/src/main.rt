@@ -3,6 +3,7 @@
 ghost use mathlib.Core.Path.{_≡_};
 ghost use mathlib.Core.Bool.{true};
 ghost use Prim.Native.Nat.{_*_, _^_, _≤_, _<_};
+ghost use lib.Dec.{ltb};
 ghost use lib.ListN.{length};
 ghost use Rattle.words.specs.Answers.{outcome};
 ghost use Rattle.words.specs.Refusals.{tooFewWords, termNotAbove};
@@ -188,6 +189,13 @@ fn run(listing: &[u32]) -> bool {
     run_opened(listing, &mut book, &mut lines)
 }
 
+// Whether so many bytes are more than the longest listing has.
+fn too_long(count: usize) -> bool
+    ensures { λ r. ⌜ r ≡ ltb mostBytes count ⌝ }
+{
+    MOST_BYTES < count
+}
+
 // What is printed for bytes that are not too many.
 fn answer(bytes: &[u8]) -> bool
     requires { ⌜ length (now bytes) ≤ mostBytes ⌝ }
@@ -207,7 +215,7 @@ fn main() {
         io::write_all(STDERR_FILENO, b"peatrun: standard input cannot be read\n");
         return;
     };
-    let written = if count > MOST_BYTES {
+    let written = if too_long(count) {
         say(b"too long\n")
     } else {
         answer(&buffer[0..count])
