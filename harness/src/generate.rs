@@ -1,4 +1,5 @@
 //! Listings, books, calls, floats and pools by a small generator (splitmix64), good and damaged.
+use crate::met::PAST;
 use crate::site::{Cell, Row, Site, YearlyTerm};
 use crate::Reading;
 
@@ -252,6 +253,60 @@ pub fn book(random: &mut Random, site: &Site) -> Vec<u32> {
     let beyond = random.below(4);
     book.extend(random.words(beyond));
     book
+}
+
+/// A good site's listing with one figure just past an end of its range, and which of `met::PAST` it is.
+pub fn past_range(random: &mut Random, site: &Site) -> (Vec<u32>, &'static str) {
+    let which = random.pick(PAST);
+    let mut site = site.clone();
+    if site.terms.is_empty() {
+        site.terms.push(YearlyTerm {
+            year: 1,
+            term: 1,
+            tonnes: 0,
+        });
+    }
+    let (horizon, strata) = (site.horizon, site.tables.len() as u32);
+    let cell = random.below(site.cells.len());
+    let term = random.below(site.terms.len());
+    let (cell, term) = (&mut site.cells[cell], &mut site.terms[term]);
+    match which {
+        "p 101" => site.buffer = 101,
+        "G 0" => site.warming = 0,
+        "G 101" => site.warming = 101,
+        "e 101" => site.methane = 101,
+        "stratum" => cell.stratum = strata,
+        "conversion year" => cell.conversion = horizon + 1,
+        "depth 20,001" => cell.entered = 20_001,
+        "area 0" => cell.area = 0,
+        "area 10,001" => cell.area = 10_001,
+        "density 0" => cell.density = 0,
+        "density 2,401" => cell.density = 2_401,
+        "term 0" => term.term = 0,
+        "term 2" => term.term = 2,
+        "term 9" => term.term = 9,
+        "term's year 0" => term.year = 0,
+        "term's year" => term.year = horizon + 1,
+        _ => {}
+    }
+    let mut words = site.words();
+    past_size(which, &mut words[0]);
+    (words, which)
+}
+
+/// The same for a figure of word 0, whose other words then stay as they are.
+fn past_size(which: &str, word: &mut u32) {
+    let (low, width, figure) = match which {
+        "cells 0" => (16, 12, 0),
+        "cells 257" => (16, 12, 257),
+        "strata 0" => (8, 8, 0),
+        "strata 17" => (8, 8, 17),
+        "horizon 0" => (0, 8, 0),
+        "horizon 101" => (0, 8, 101),
+        _ => return,
+    };
+    let mask = ((1 << width) - 1) << low;
+    *word = *word & !mask | figure << low;
 }
 
 /// Makes one thing wrong, most likely; some changes leave a listing or a book good.

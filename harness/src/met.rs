@@ -88,6 +88,25 @@ const GROUPS: &[(&str, &[&str])] = &[
         ],
     ),
     (
+        "cell in a closing",
+        &[
+            "withdrawn",
+            "plan year 0",
+            "plan year ahead",
+            "not peat",
+            "d below 400",
+            "d is 400",
+            "d above 400",
+        ],
+    ),
+    ("burned by", &["b alone", "R alone", "d - 400 alone"]),
+    (
+        "oxidised by",
+        &["o alone", "R - burned alone", "d - burned alone"],
+    ),
+    ("replan to", &["0", "a year"]),
+    ("issue with", &["p 0", "p 100"]),
+    (
         "balance at an issue",
         &[
             "below 0",
@@ -126,6 +145,7 @@ const GROUPS: &[(&str, &[&str])] = &[
             "700 terms",
         ],
     ),
+    ("listing just past", PAST),
     ("core of", FLOATS),
     ("level of", FLOATS),
     (
@@ -144,6 +164,32 @@ const GROUPS: &[(&str, &[&str])] = &[
             "a root is taken",
         ],
     ),
+];
+
+/// A figure of a listing just past an end of its range; `generate::past_range` makes each.
+pub const PAST: &[&str] = &[
+    "cells 0",
+    "cells 257",
+    "strata 0",
+    "strata 17",
+    "horizon 0",
+    "horizon 101",
+    "p 101",
+    "G 0",
+    "G 101",
+    "e 101",
+    "stratum",
+    "conversion year",
+    "depth 20,001",
+    "area 0",
+    "area 10,001",
+    "density 0",
+    "density 2,401",
+    "term 0",
+    "term 2",
+    "term 9",
+    "term's year 0",
+    "term's year",
 ];
 
 /// The classes of binary32 numbers; `class` says which a number is in.

@@ -30,7 +30,8 @@ fn ledger_calls() {
         let site = generate::any_site(random);
         let (mut listing, mut book) = (site.words(), generate::book(random, &site));
         match random.between(0, 7) {
-            0 | 1 => generate::damage(random, &mut listing),
+            0 => generate::damage(random, &mut listing),
+            1 => listing = generate::past_range(random, &site).0,
             2 | 3 => generate::damage(random, &mut book),
             4 => book.truncate(random.below(site.book_words())),
             _ => {}

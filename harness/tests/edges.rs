@@ -1,5 +1,6 @@
-//! Document 01's worked figures and the ends of every range and length, on the proved calls and on the reference.
+//! Document 01's worked figures, the ends of lengths and readings, and the claims on lists where they fail.
 use harness::generate::{self, Random};
+use harness::reference::{self, History, GUARD};
 use harness::sample::{NEGATIVE_TERM, WORKED};
 use harness::site::{Cell, Row, Site};
 use harness::{Account, Answer, Ledger, Reading, PROVED, REFERENCE};
@@ -269,6 +270,45 @@ fn greatest_line() {
         assert_eq!((ledger.close)(&listing, &mut book, &mut lines), accepted(0));
         assert_eq!(lines[2], 15 << 28 | 50_740_800);
     });
+}
+
+/// One mm, one kg or one tonne too many handed out breaks a claim on lists of calls: none is true of itself.
+#[test]
+fn claims_that_fail() {
+    let mut book = [0; 5];
+    reference::open(&WORKED, &mut book);
+    let mut lines = [0; 3];
+    reference::close(&WORKED, &mut book, &mut lines);
+    let account = reference::statement(&WORKED, &book, 0);
+    let closed = |more: [u32; 3]| {
+        let mut history = History::opened(&WORKED);
+        let forged: Vec<u32> = lines
+            .iter()
+            .zip(more)
+            .map(|(line, more)| line + more)
+            .collect();
+        let fires = history.closed(&forged);
+        (history, fires[0].stayed_dry)
+    };
+    let (mut history, stayed_dry) = closed([0, 0, 0]);
+    assert_eq!(stayed_dry, GUARD);
+    assert!(history.depth_holds(0, &account) && history.kilograms_hold(0));
+    history.issued(553);
+    assert!(history.issues_hold());
+    let (history, _) = closed([1, 0, 0]);
+    assert!(!history.depth_holds(0, &account) && !history.kilograms_hold(0));
+    let (history, stayed_dry) = closed([0, 1, 0]);
+    assert!(!history.depth_holds(0, &account) && stayed_dry < GUARD);
+    for more in [1, u32::MAX] {
+        let mut history = History::opened(&WORKED);
+        history.closed(&[lines[0], lines[1], lines[2].wrapping_add(more)]);
+        assert!(history.depth_holds(0, &account) && !history.kilograms_hold(0));
+    }
+    for tonnes in [552, 554] {
+        let (mut history, _) = closed([0, 0, 0]);
+        history.issued(tonnes);
+        assert!(!history.issues_hold());
+    }
 }
 
 /// A K of 1 emits only by its sum: rounding each year by itself would give 0 for ever.

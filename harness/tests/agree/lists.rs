@@ -6,11 +6,12 @@ use harness::reference::{History, GUARD};
 use harness::site::{Site, LINE_WORDS};
 use harness::{Account, PROVED};
 
-/// What a list has handed out, with what only the table asks: marks, mm lost, and the balances at its issues.
+/// What a list has handed out, with what only the table asks: marks, plan years, mm lost, and the balances at its issues.
 struct Told<'a> {
     site: &'a Site,
     history: History,
     withdrawn: Vec<bool>,
+    plans: Vec<u32>,
     lost: Vec<u32>,
     balances: Vec<i128>,
 }
@@ -21,6 +22,7 @@ impl<'a> Told<'a> {
             site,
             history: History::opened(listing),
             withdrawn: vec![false; site.cells.len()],
+            plans: site.cells.iter().map(|cell| cell.conversion).collect(),
             lost: vec![0; site.cells.len()],
             balances: Vec::new(),
         }
@@ -30,7 +32,11 @@ impl<'a> Told<'a> {
     fn accepted(&mut self, met: &mut Met, call: Call, value: u32, lines: &[u32]) {
         match call {
             Call::Close { lines: length } => self.closed(met, &lines[..length]),
-            Call::Replan { cell, year } => self.history.replanned(cell, year),
+            Call::Replan { cell, year } => {
+                self.history.replanned(cell, year);
+                self.plans[cell] = year;
+                met.count("replan to", if year == 0 { "0" } else { "a year" });
+            }
             Call::Withdraw { cell } => self.withdrawn[cell] = true,
             Call::Issue => self.issued(met, value),
             _ => {}
@@ -46,6 +52,11 @@ impl<'a> Told<'a> {
             _ => "to 254,770,500 t",
         };
         met.count("balance at an issue", row);
+        match self.site.buffer {
+            0 => met.count("issue with", "p 0"),
+            100 => met.count("issue with", "p 100"),
+            _ => {}
+        }
         self.balances.push(balance);
     }
 
@@ -69,8 +80,38 @@ impl<'a> Told<'a> {
                 met.count("fire", row);
             }
         }
-        for (lost, line) in self.lost.iter_mut().zip(lines.chunks_exact(LINE_WORDS)) {
-            *lost += (line[0] & 0x0FFF_FFFF) + (line[1] & 0x0FFF_FFFF);
+        for (cell, line) in (0..self.lost.len()).zip(lines.chunks_exact(LINE_WORDS)) {
+            let (oxidised, burned) = (line[0] & 0x0FFF_FFFF, line[1] & 0x0FFF_FFFF);
+            self.count_cell(met, cell, burned);
+            self.lost[cell] += oxidised + burned;
+        }
+    }
+
+    /// Which case of the year rule a cell met in the year just closed, and what alone limited its losses.
+    fn count_cell(&self, met: &mut Met, i: usize, burned: u32) {
+        let (cell, plan) = (self.site.cells[i], self.plans[i]);
+        let year = self.history.closings();
+        let rests = match (self.withdrawn[i], plan) {
+            (true, _) => Some("withdrawn"),
+            (_, 0) => Some("plan year 0"),
+            _ if plan > year => Some("plan year ahead"),
+            _ if cell.entered < 300 => Some("not peat"),
+            _ => None,
+        };
+        if let Some(row) = rests {
+            return met.count("cell in a closing", row);
+        }
+        let row = self.site.tables[cell.stratum as usize][(year - plan) as usize];
+        let (d, remaining) = (10 * row.drainage, cell.entered - self.lost[i]);
+        let of_d = ["d below 400", "d is 400", "d above 400"];
+        met.count("cell in a closing", of_d[(d.cmp(&400) as i8 + 1) as usize]);
+        let burned_limits = [row.burning, remaining, d.saturating_sub(400)];
+        if let Some(limit) = least_alone(burned_limits) {
+            met.count("burned by", ["b alone", "R alone", "d - 400 alone"][limit]);
+        }
+        let rows = ["o alone", "R - burned alone", "d - burned alone"];
+        if let Some(limit) = least_alone([row.oxidation, remaining - burned, d - burned]) {
+            met.count("oxidised by", rows[limit]);
         }
     }
 
@@ -127,11 +168,24 @@ impl<'a> Told<'a> {
     }
 }
 
+/// The index of the least of three limits, if no other is as small.
+fn least_alone(limits: [u32; 3]) -> Option<usize> {
+    let least = limits.into_iter().min();
+    let mut at_least = (0..3).filter(|&i| Some(limits[i]) == least);
+    at_least.next().filter(|_| at_least.next().is_none())
+}
+
 /// One call on a copy with a damaged listing, a damaged or short book, or both, or a call that no list has.
 fn stray(random: &mut Random, met: &mut Met, site: &Site, lent: &Lent) {
     let mut damaged = lent.clone();
-    if random.once_in(3) {
-        generate::damage(random, &mut damaged.listing);
+    match random.between(0, 5) {
+        0 => generate::damage(random, &mut damaged.listing),
+        1 => {
+            let which;
+            (damaged.listing, which) = generate::past_range(random, site);
+            met.count("listing just past", which);
+        }
+        _ => {}
     }
     match random.between(0, 5) {
         0 | 1 => generate::damage(random, &mut damaged.book),
