@@ -1,26 +1,24 @@
 -- Document 01, "Book and calls": peat tonnes, N and S to date, withheld, and the balance, by the current year t and the kg to date of each
 -- cell, kg.
-use Prim.Native.Nat.{ℕ, zero, suc, _+_, _*_, _/_}
+use Prim.Native.Nat.{ℕ, _+_, _*_, _/_, _^_}
 use mathlib.Core.List.{List}
 use lib.IntN.{ℤ, pos, _+ℤ_, _-ℤ_}
 use Rattle.words.specs.Bits.{atLeast0}
-use Rattle.listing.specs.Layout.{head, cells, cell}
-use Rattle.terms.specs.Terms.{termsToDate}
-use Rattle.year.specs.Year.{kgOf}
-use Rattle.book.specs.Layout.{year, issued, entry}
-
--- f of the first n cells, added up
-unfoldable pub overCells : (ℕ → ℕ) → ℕ → ℕ
-overCells f zero = 0
-overCells f (suc n) = overCells f n + f n
+use Rattle.words.specs.Sums.{sumBelow}
+use Rattle.fields.specs.Words.{mostCells}
+use Rattle.listing.specs.Layout.{head, cells}
+use Rattle.terms.specs.Terms.{termsToDate, mostTerms}
+use Rattle.year.specs.Year.{mostEmission}
+use Rattle.book.specs.Current.{issued, kgTo}
+use Rattle.book.specs.Layout.{year}
 
 -- peat tonnes to date: the kg to date of all cells added, divided by 1,000, rounded down; this is term 2
 unfoldable pub peatTonnes : List ℕ → (ℕ → ℕ) → ℕ
-peatTonnes l kg = overCells kg (cells l) / 1000
+peatTonnes l kg = sumBelow kg (cells l) / 1000
 
--- the most that 256 cells can emit, in tonnes
+-- the most peat tonnes that a listing's cells can have, 208,896,000
 abbrev pub mostPeat : ℕ
-mostPeat = 208896000
+mostPeat = mostEmission * mostCells / 1000
 
 -- terms 1 to `last` to date, those of years 1 to t: 8 for N, 5 for S
 abbrev pub toDate : List ℕ → ℕ → ℕ → ℕ → ℤ
@@ -37,15 +35,19 @@ balanceOf l t peat = toDate l t peat 8 -ℤ pos (withheld (head l .buffer) (toDa
 abbrev pub balance : List ℕ → ℕ → (ℕ → ℕ) → ℤ
 balance l t kg = balanceOf l t (peatTonnes l kg)
 
+-- the greatest balance, 254,770,500
+abbrev pub mostBalance : ℕ
+mostBalance = mostPeat + mostTerms
+
+-- no number of tonnes on the way to a balance is larger than this, above or below zero
+abbrev pub mostTonnes : ℕ
+mostTonnes = 2 ^ 30
+
 -- an issue answers balance − issued, or 0 if that is negative
 unfoldable pub due : ℤ → ℕ → ℕ
 due z issued = atLeast0 (z -ℤ pos issued)
 
 -- ---- by a book
-
--- the kg to date of cell i
-abbrev pub kgTo : List ℕ → List ℕ → ℕ → ℕ
-kgTo l b i = kgOf (head l) (cell l i) (entry b i)
 
 -- the balance, and what an issue answers
 abbrev pub balanceIn : List ℕ → List ℕ → ℤ

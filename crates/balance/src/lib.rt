@@ -4,15 +4,17 @@ ghost use mathlib.Core.Path.{_≡_};
 ghost use Prim.Native.Nat.{_≤_, _<_, _^_};
 ghost use lib.IntN.{natAbs};
 ghost use Rattle.words.specs.Bits.{atLeast0};
+ghost use Rattle.words.specs.Sums.{sumBelow};
 ghost use Rattle.listing.specs.Layout.{cells};
 ghost use Rattle.listing.specs.Accepted.{Accepted};
-ghost use Rattle.book.specs.Sound.{Sound};
-ghost use Rattle.balance.specs.Balance.{overCells, peatTonnes, mostPeat, toDate, withheld, balanceOf, due, kgTo, tonnesDue};
+ghost use Rattle.book.specs.Current.{kgTo, Sound};
+ghost use Rattle.balance.specs.Balance.{peatTonnes, mostPeat, toDate, withheld, balanceOf, mostBalance, mostTonnes, due, tonnesDue};
+use book::BOOK;
 
 // The kg to date of all cells, added.
 fn kg_to_date(listing: &[u32], book: &[u32]) -> u64
     requires { ⌜ Sound (now listing) (now book) ⌝ }
-    ensures { λ r. ⌜ r ≡ overCells (kgTo (now (listing .entry)) (now (book .entry))) (cells (now (listing .entry))) ⌝ }
+    ensures { λ r. ⌜ r ≡ sumBelow (kgTo (now (listing .entry)) (now (book .entry))) (cells (now (listing .entry))) ⌝ }
 {
     let h = listing::head(listing);
     let cells = h.cells as usize;
@@ -20,8 +22,7 @@ fn kg_to_date(listing: &[u32], book: &[u32]) -> u64
     let mut i: usize = 0;
     while i < cells {
         let c = listing::cell(listing, i);
-        let e = book::entry(book, i);
-        kg += year::emission(h, c, e.oxidised, e.burned) as u64;
+        kg += book::kg_of(h, c, book::words_of(BOOK, book, i)) as u64;
         i += 1;
     }
     kg
@@ -52,7 +53,7 @@ fn to_date(listing: &[u32], year: u32, peat: u64, last: u32) -> i64
 
 // What is withheld of `s` tonnes: `p` percent, rounded up.
 fn withheld(p: u32, s: i64) -> u64
-    requires { ⌜ (p ≤ 100) × (natAbs s ≤ 2 ^ 30) ⌝ }
+    requires { ⌜ (p ≤ 100) × (natAbs s ≤ mostTonnes) ⌝ }
     ensures { λ r. ⌜ r ≡ withheld p s ⌝ }
 {
     (p as u64 * at_least_0(s) + 99) / 100
@@ -70,8 +71,8 @@ fn balance_of(listing: &[u32], year: u32, peat: u64) -> i64
 }
 
 // What an issue pays out of a balance: the tonnes that were not issued before.
-fn due(balance: i64, issued: u32) -> u32
-    requires { ⌜ (natAbs balance ≤ 2 ^ 30) × (atLeast0 balance < 2 ^ 28) ⌝ }
+fn due(balance: i64, issued: u64) -> u32
+    requires { ⌜ (natAbs balance ≤ mostTonnes) × (atLeast0 balance ≤ mostBalance) × (issued < 2 ^ 56) ⌝ }
     ensures { λ r. ⌜ r ≡ due balance issued ⌝ }
 {
     at_least_0(balance - issued as i64) as u32
@@ -84,5 +85,5 @@ pub fn tonnes_due(listing: &[u32], book: &[u32]) -> u32
 {
     let peat = peat_tonnes(listing, book);
     let balance = balance_of(listing, book::year(book), peat);
-    due(balance, book::issued(book))
+    due(balance, book::issued(BOOK, book))
 }

@@ -2,82 +2,100 @@
 use mathlib.Core.Path.{_≡_}
 use mathlib.Core.Bool.{Bool, true}
 use mathlib.Core.List.{List}
-use Prim.Native.Nat.{ℕ, _^_, _≤_, _<_}
+use Prim.Native.Nat.{ℕ, _%_, _^_, _≤_, _<_}
 use native.Mathlib.Omega.{arith}
+use lib.Dec.{eqb}
 use lib.ListN.{length, getD, set, length-set}
 use lib.Seq.{getD-set-same, getD-set-other}
+use borrow.Author.Tests.{eqb-true, eqb-false, ne-eqb}
+use Rattle.words.specs.Bits.{wordOf}
 use Rattle.words.specs.Blocks.{filled}
 use Rattle.words.proofs.Answers.{after-says}
-use Rattle.words.proofs.Blocks.{length-filled, filled-before}
+use Rattle.words.proofs.Blocks.{length-filled}
+use Rattle.words.proofs.Signed.{by-test}
 use Rattle.listing.specs.Layout.{head, cells, horizon, cell}
-use Rattle.book.specs.Layout.{bookHead, entryWords, entryAt, bookSize, yearWord, issuedWord, planWord}
-use Rattle.book.specs.Check.{isYearWord, isIssuedWord, roomChecked, fitted, admitted, admittedOnly}
-use Rattle.book.proofs.Words.{year-right, issued-right}
-use Rattle.book.proofs.Right.{WordsRight, Right, admitted-right, right-admits}
-use Rattle.book.proofs.Sound.{fitted-says, sound}
-use Rattle.book.proofs.Entries.{words-kept, right-put, words-filled}
+use Rattle.year.specs.declared.Entry.{Entry}
+use Rattle.book.specs.Layout.{yearKind, issuedKind, Shaped, entryAt, bookSize, yearAt, issuedAt, issuedWords, stored, withYear, withIssued, planWord, withPlan}
+use Rattle.book.specs.Check.{isHeadWord, headRight, entryRight, roomChecked, fitted, admitted}
+use Rattle.book.specs.Sound.{All, Right}
+use Rattle.book.specs.declared.Shape.{Shape}
+use Rattle.book.proofs.Words.{kind-of, year-right}
+use Rattle.book.proofs.Numbers.{stored-keeps}
+use Rattle.book.proofs.Right.{admitted-right, right-admits}
+use Rattle.book.proofs.Sound.{fitted-says, fitted-room, sound}
+use Rattle.book.proofs.Entries.{before-words, right-put, head-filled, words-filled}
 
 -- room goes by the length
-pub fitted-length : (l b b′ : List ℕ) → length b′ ≡ length b → fitted l b .done ≡ true → fitted l b′ .done ≡ true
+pub fitted-length : (s : Shape) (l b b′ : List ℕ) → length b′ ≡ length b → fitted s l b .done ≡ true → fitted s l b′ .done ≡ true
 unfolding fitted roomChecked
-fitted-length l b b′ e h = rw e h
+fitted-length s l b b′ e h = rw e h
 
-pub admitted-fitted : (l b : List ℕ) (perCell room : ℕ) → admitted l b perCell room .done ≡ true → fitted l b .done ≡ true
+pub admitted-fitted : (s : Shape) (l b : List ℕ) → admitted s l b .done ≡ true → fitted s l b .done ≡ true
 unfolding admitted
-admitted-fitted l b perCell room h = after-says _ _ h .0
+admitted-fitted s l b h = after-says _ _ h .0
 
-module _ (l b : List ℕ) (a : admittedOnly l b .done ≡ true) where
+module _ (s : Shape) (g : Shaped s) (l b : List ℕ) (a : admitted s l b .done ≡ true) where
   -- one word stored, and all words right
-  stored : (k w : ℕ) → Right l (set b k w) → admittedOnly l (set b k w) .done ≡ true
-  stored k w r = right-admits l (set b k w) 0 0 (omega arith) (fitted-length l b (set b k w) (length-set b k w) (admitted-fitted l b 0 0 a)) r
+  one-stored : (k w : ℕ) → Right s l (set b k w) → admitted s l (set b k w) .done ≡ true
+  one-stored k w r = right-admits s l (set b k w) g (fitted-length s l b (set b k w) (length-set b k w) (admitted-fitted s l b a)) r
 
-  pub admitted-room : bookSize (cells l) ≤ length b
-  admitted-room = sound l b 0 0 a .fitted .room
+  pub admitted-room : bookSize s (cells l) ≤ length b
+  admitted-room = sound s l b g a .fitted .room
 
   pub horizon-small : horizon l < 2 ^ 8
-  horizon-small = let h = sound l b 0 0 a .fitted .accepted .head-right .horizon in omega arith
+  horizon-small = let h = sound s l b g a .fitted .accepted .head-right .horizon in omega arith
 
-  pub year-admits : (t : ℕ) → t ≤ horizon l → admittedOnly l (set b 0 (yearWord t)) .done ≡ true
+  -- a word of the head
+  pub head-admits : (k w : ℕ) → k < s .head → isHeadWord (horizon l) k w ≡ true → admitted s l (set b k w) .done ≡ true
+  head-admits k w h right =
+      let r = admitted-right s l b a in
+      one-stored k w
+      (record {
+        head-words =
+            record {
+              each =
+                  λ m lt.
+                  by-test (λ (t : Bool). isHeadWord (horizon l) m (getD (set b k w) m 0) ≡ true) (eqb m k) true true
+                  (λ e. rw (eqb-true m k e, getD-set-same b k w 0 (omega (arith, admitted-room))) right)
+                  (λ e. rw (getD-set-other b k m w 0 (eqb-false m k e)) (r .head-words .each m lt));
+            };
+        entry-words = λ i lt. rw (before-words s b k w i (omega arith)) (r .entry-words i lt);
+      })
+
+  pub year-admits : (t : ℕ) → t ≤ horizon l → admitted s l (withYear b t) .done ≡ true
+  unfolding isHeadWord stored
   year-admits t h =
-      let r = admitted-right l b 0 0 a in
-      stored 0 (yearWord t)
+      let two = g .head in
+      let small : t % 2 ^ 28 ≡ t = omega (arith, horizon-small) in
+      head-admits yearAt (wordOf yearKind (t % 2 ^ 28)) (omega arith) (rw small (year-right (horizon l) t h (omega (arith, horizon-small))))
+
+  pub plan-admits : (i : ℕ) (new : Entry) → new .plan ≤ horizon l → admitted s l (withPlan s b i new) .done ≡ true
+  plan-admits i new h =
+      let r = admitted-right s l b a in
+      let word = planWord (new .withdrawn) (new .plan) in
+      one-stored (entryAt s i) word
       (record {
-        year = rw (getD-set-same b 0 (yearWord t) 0 (omega (arith, admitted-room))) (year-right (horizon l) t h (omega (arith, horizon-small)));
-        issued = rw (getD-set-other b 0 1 (yearWord t) 0 (λ q. omega arith)) (r .issued);
-        words = λ i lt. rw (words-kept b 0 (yearWord t) i (omega arith)) (r .words i lt);
+        head-words = record { each = λ k lt. rw (getD-set-other b (entryAt s i) k word 0 (λ q. omega arith)) (r .head-words .each k lt) };
+        entry-words = λ j lt. right-put s b i new j (fitted-room s l b (sound s l b g a .fitted) j lt) (s .entry) (head l) (cell l j) h horizon-small (r .entry-words j lt);
       })
 
-  pub issued-admits : (n : ℕ) → n < 2 ^ 28 → admittedOnly l (set b 1 (issuedWord n)) .done ≡ true
-  issued-admits n h =
-      let r = admitted-right l b 0 0 a in
-      stored 1 (issuedWord n)
-      (record {
-        year = rw (getD-set-other b 1 0 (issuedWord n) 0 (λ q. omega arith)) (r .year);
-        issued = rw (getD-set-same b 1 (issuedWord n) 0 (omega (arith, admitted-room))) (issued-right n h);
-        words = λ i lt. rw (words-kept b 1 (issuedWord n) i (omega arith)) (r .words i lt);
-      })
-
-  pub plan-admits : (i : ℕ) (f : Bool) (y : ℕ) → y ≤ horizon l → admittedOnly l (set b (entryAt i) (planWord f y)) .done ≡ true
-  plan-admits i f y h =
-      let r = admitted-right l b 0 0 a in
-      stored (entryAt i) (planWord f y)
-      (record {
-        year = rw (getD-set-other b (entryAt i) 0 (planWord f y) 0 (λ q. omega arith)) (r .year);
-        issued = rw (getD-set-other b (entryAt i) 1 (planWord f y) 0 (λ q. omega arith)) (r .issued);
-        words = λ j lt. right-put b i f y j (omega (arith, admitted-room)) (head l) (cell l j) h horizon-small (r .words j lt);
-      })
+pub issued-admits : (s : Shape) (g : Shaped s) (l b : List ℕ) (n : ℕ) → admitted s l b .done ≡ true → admitted s l (withIssued s b n) .done ≡ true
+unfolding isHeadWord
+issued-admits s g l b n a =
+    stored-keeps (λ (d : List ℕ). admitted s l d .done ≡ true) issuedKind issuedAt (issuedWords s) n b
+    (λ d k w h lt small e. head-admits s g l d e k (wordOf issuedKind w) (omega arith) (rw (ne-eqb k 0 (λ q. omega arith)) (kind-of issuedKind w (omega arith) small)))
+    a
 
 -- all cells' words stored, behind a right head
 pub filled-admits :
-    (l b : List ℕ) → fitted l b .done ≡ true → isYearWord (horizon l) (getD b 0 0) ≡ true → isIssuedWord (getD b 1 0) ≡ true →
-    (f : ℕ → List ℕ) → ((i : ℕ) → length (f i) ≡ entryWords) → ((i : ℕ) → i < cells l → WordsRight (head l) (cell l i) (f i)) →
-    admittedOnly l (filled entryWords b bookHead f (cells l)) .done ≡ true
-filled-admits l b fits y s f sized w =
-    let room = fitted-says l b fits .room in
-    let front : bookHead ≤ length b = omega arith in
-    right-admits l _ 0 0 (omega arith) (fitted-length l b _ (length-filled entryWords b bookHead f sized front (cells l) room) fits)
+    (s : Shape) (g : Shaped s) (l b : List ℕ) → fitted s l b .done ≡ true → All (headRight (horizon l) b) (s .head) →
+    (f : ℕ → List ℕ) → ((i : ℕ) → length (f i) ≡ s .entry) → ((i : ℕ) → i < cells l → All (entryRight (head l) (cell l i) (f i)) (s .entry)) →
+    admitted s l (filled (s .entry) b (s .head) f (cells l)) .done ≡ true
+filled-admits s g l b fits heads f sized w =
+    let room = fitted-says s l b g fits .room in
+    let front : s .head ≤ length b = omega arith in
+    right-admits s l _ g (fitted-length s l b _ (length-filled (s .entry) b (s .head) f sized front (cells l) room) fits)
     (record {
-      year = rw (filled-before entryWords b bookHead f sized front (cells l) 0 (omega arith)) y;
-      issued = rw (filled-before entryWords b bookHead f sized front (cells l) 1 (omega arith)) s;
-      words = λ i lt. rw (words-filled b f sized front (cells l) i lt) (w i lt);
+      head-words = record { each = λ k lt. rw (head-filled s b f sized front (cells l) k lt) (heads .each k lt) };
+      entry-words = λ i lt. rw (words-filled s b f sized front (cells l) i lt) (w i lt);
     })

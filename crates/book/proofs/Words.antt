@@ -6,15 +6,15 @@ use native.Mathlib.Omega.{arith}
 use lib.Dec.{eqb}
 use borrow.Author.Tests.{le-leb, eq-eqb}
 use Rattle.words.specs.Bits.{bits, within, isKind, wordOf}
-use Rattle.words.proofs.Fields.{field-high, field-low, word-kind, word-bits}
-use Rattle.book.specs.Layout.{number, withdrawnOf, planOf, yearWord, issuedWord, planWord, oxidisedWord, burnedWord}
-use Rattle.book.specs.Check.{isYearWord, isIssuedWord, isPlanWord, isOxidisedWord, isBurnedWord}
+use Rattle.words.proofs.Fields.{field-high, field-low, field-own, field-above, word-kind, word-bits}
+use Rattle.book.specs.Layout.{yearKind, planKind, oxidisedKind, burnedKind, number, withdrawnOf, planOf, planWord, oxidisedWord, burnedWord}
+use Rattle.book.specs.Check.{isYearWord, isPlanWord, isOxidisedWord, isBurnedWord}
 
 -- ---- fields
 
 -- a number of 28 bits
 pub number-of : (kind n : ℕ) → n < 2 ^ 28 → number (wordOf kind n) ≡ n
-number-of kind n h = word-bits kind n 27 0 (omega arith) (omega arith) ∙ omega arith
+number-of kind n h = word-bits kind n 27 0 (omega arith) (omega arith) ∙ field-own n 28 h
 
 pub kind-of : (kind payload : ℕ) → kind < 16 → payload < 2 ^ 28 → isKind kind (wordOf kind payload) ≡ true
 unfolding isKind
@@ -35,15 +35,15 @@ module _ (f : Bool) (y : ℕ) (h : y < 2 ^ 8) where
   payload-small = omega (arith, flag-small f)
 
   pub plan-of : planOf (planWord f y) ≡ y
-  plan-of = word-bits 10 (cond f 1 0 * 2 ^ 8 + y) 7 0 (omega arith) (omega arith) ∙ field-low (cond f 1 0) y 8 0 8 (omega arith) ∙ omega arith
+  plan-of = word-bits planKind (cond f 1 0 * 2 ^ 8 + y) 7 0 (omega arith) (omega arith) ∙ field-low (cond f 1 0) y 8 0 8 (omega arith) ∙ field-own y 8 h
 
   pub mark-of : withdrawnOf (planWord f y) ≡ f
   mark-of =
-      ap (λ (n : ℕ). eqb n 1) (word-bits 10 (cond f 1 0 * 2 ^ 8 + y) 8 8 (omega arith) (omega arith) ∙ field-high (cond f 1 0) y 8 1 (flag-small f) h)
+      ap (λ (n : ℕ). eqb n 1) (word-bits planKind (cond f 1 0 * 2 ^ 8 + y) 8 8 (omega arith) (omega arith) ∙ field-high (cond f 1 0) y 8 1 (flag-small f) h)
       ∙ flag f
 
   zero-bits : bits (planWord f y) 27 9 ≡ 0
-  zero-bits = word-bits 10 (cond f 1 0 * 2 ^ 8 + y) 27 9 (omega arith) (omega arith) ∙ omega (arith, payload-small)
+  zero-bits = word-bits planKind (cond f 1 0 * 2 ^ 8 + y) 27 9 (omega arith) (omega arith) ∙ field-above _ 9 19 payload-small
 
 -- ---- right words
 
@@ -51,22 +51,19 @@ within-is : (most x : ℕ) → x ≤ most → within 0 most x ≡ true
 unfolding within
 within-is most x h = rw (le-leb 0 x zero-le, le-leb x most h)
 
-pub year-right : (horizon t : ℕ) → t ≤ horizon → horizon < 2 ^ 28 → isYearWord horizon (yearWord t) ≡ true
+pub year-right : (horizon t : ℕ) → t ≤ horizon → horizon < 2 ^ 28 → isYearWord horizon (wordOf yearKind t) ≡ true
 unfolding isYearWord
-year-right horizon t h k = rw (kind-of 8 t (omega arith) (omega arith), number-of 8 t (omega arith), within-is horizon t h)
-
-pub issued-right : (n : ℕ) → n < 2 ^ 28 → isIssuedWord (issuedWord n) ≡ true
-issued-right n h = kind-of 9 n (omega arith) h
+year-right horizon t h k = rw (kind-of yearKind t (omega arith) (omega arith), number-of yearKind t (omega arith), within-is horizon t h)
 
 pub plan-right : (horizon : ℕ) (f : Bool) (y : ℕ) → y ≤ horizon → horizon < 2 ^ 8 → isPlanWord horizon (planWord f y) ≡ true
 unfolding isPlanWord
 plan-right horizon f y h k =
     let s : y < 2 ^ 8 = omega arith in
-    rw (kind-of 10 (cond f 1 0 * 2 ^ 8 + y) (omega arith) (omega (arith, payload-small f y s)), zero-bits f y s, plan-of f y s, within-is horizon y h)
+    rw (kind-of planKind (cond f 1 0 * 2 ^ 8 + y) (omega arith) (omega (arith, payload-small f y s)), zero-bits f y s, plan-of f y s, within-is horizon y h)
 
 pub oxidised-right : (mm : ℕ) → mm < 2 ^ 28 → isOxidisedWord (oxidisedWord mm) ≡ true
-oxidised-right mm h = kind-of 11 mm (omega arith) h
+oxidised-right mm h = kind-of oxidisedKind mm (omega arith) h
 
 pub burned-right : (most o b : ℕ) → o + b ≤ most → most < 2 ^ 28 → isBurnedWord most (oxidisedWord o) (burnedWord b) ≡ true
 unfolding isBurnedWord
-burned-right most o b h k = rw (kind-of 12 b (omega arith) (omega arith), number-of 11 o (omega arith), number-of 12 b (omega arith), le-leb (o + b) most h)
+burned-right most o b h k = rw (kind-of burnedKind b (omega arith) (omega arith), number-of oxidisedKind o (omega arith), number-of burnedKind b (omega arith), le-leb (o + b) most h)

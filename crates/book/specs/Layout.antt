@@ -1,48 +1,99 @@
 -- Document 01, "Book and calls": where the words of a book b stand, and what they say. Check.antt goes through them place by place, and
--- names the zero bits of kind 10; closing's `wordsAfter` keeps the first of a cell's words as it is.
-use Prim.Native.Nat.{ℕ, _+_, _*_, _^_}
+-- names the zero bits of kind 10.
+use Prim.Native.Nat.{ℕ, zero, suc, _+_, _-_, _*_, _/_, _%_, _^_, _≤_}
 use mathlib.Core.Bool.{Bool, cond}
 use mathlib.Core.List.{List, [], _∷_}
 use lib.Dec.{eqb}
-use lib.ListN.{getD, take, drop}
+use lib.ListN.{getD, set, take, drop}
 use Rattle.words.specs.Bits.{bits, wordOf}
 use Rattle.year.specs.declared.Entry.{Entry}
 use Rattle.year.specs.declared.Loss.{Loss}
+use Rattle.book.specs.declared.Shape.{Shape}
 
--- the words of a book's head, those of a cell in it, and those of a cell in the lines
-abbrev pub bookHead : ℕ
-bookHead = 2
+-- ---- its shape: how many words its head has, and a cell in it
 
-abbrev pub entryWords : ℕ
-entryWords = 3
+-- how many words a cell has: three
+pub record Sized (n : ℕ) : Type 0 where
+  pub least : 3 ≤ n
+  pub most : n ≤ 3
 
+-- what every shape has: a year and one or two words of tonnes issued in its head, and the words of a cell
+pub record Shaped (s : Shape) : Type 0 where
+  pub head : (2 ≤ s .head) × (s .head ≤ 3)
+  pub entry : Sized (s .entry)
+
+-- where cell i begins, and how many words a book of n cells needs
+abbrev pub entryAt : Shape → ℕ → ℕ
+entryAt s i = s .head + s .entry * i
+
+abbrev pub bookSize : Shape → ℕ → ℕ
+bookSize = entryAt
+
+-- the cell that has the word at place k, behind the head, and the word's offset in the cell
+abbrev pub cellAt : Shape → ℕ → ℕ
+cellAt s k = (k - s .head) / s .entry
+
+abbrev pub offsetAt : Shape → ℕ → ℕ
+offsetAt s k = (k - s .head) % s .entry
+
+-- the words of a cell in the lines
 abbrev pub lineWords : ℕ
 lineWords = 3
 
--- where the current year and the tonnes issued stand
+-- ---- the kinds of its words: current year, tonnes issued, mark and plan year, O, B
+
+abbrev pub yearKind : ℕ
+yearKind = 8
+
+abbrev pub issuedKind : ℕ
+issuedKind = 9
+
+abbrev pub planKind : ℕ
+planKind = 10
+
+abbrev pub oxidisedKind : ℕ
+oxidisedKind = 11
+
+abbrev pub burnedKind : ℕ
+burnedKind = 12
+
+-- and of a cell's lines
+
+abbrev pub oxidisedLineKind : ℕ
+oxidisedLineKind = 13
+
+abbrev pub burnedLineKind : ℕ
+burnedLineKind = 14
+
+abbrev pub kgLineKind : ℕ
+kgLineKind = 15
+
+-- ---- what the words say
+
+-- the number in bits 27–0
+abbrev pub number : ℕ → ℕ
+number w = bits w 27 0
+
+-- the number in bits 27–0 of n words from place `from` on, high 28 bits first
+unfoldable pub joined : List ℕ → ℕ → ℕ → ℕ
+joined b from zero = 0
+joined b from (suc n) = joined b from n * 2 ^ 28 + number (getD b (from + n) 0)
+
+-- word 0, kind 8: the current year; the head's other words, kind 9: tonnes issued
 abbrev pub yearAt : ℕ
 yearAt = 0
 
 abbrev pub issuedAt : ℕ
 issuedAt = 1
 
--- where cell i begins, and how many words a book of n cells needs: 2 + 3 × cells
-abbrev pub entryAt : ℕ → ℕ
-entryAt i = bookHead + entryWords * i
+abbrev pub issuedWords : Shape → ℕ
+issuedWords s = s .head - issuedAt
 
-abbrev pub bookSize : ℕ → ℕ
-bookSize n = entryAt n
-
--- the number in bits 27–0
-abbrev pub number : ℕ → ℕ
-number w = bits w 27 0
-
--- word 0, kind 8: the current year; word 1, kind 9: tonnes issued
 unfoldable pub year : List ℕ → ℕ
-year b = number (getD b yearAt 0)
+year b = joined b yearAt 1
 
-unfoldable pub issued : List ℕ → ℕ
-issued b = number (getD b issuedAt 0)
+unfoldable pub issued : Shape → List ℕ → ℕ
+issued s b = joined b issuedAt (issuedWords s)
 
 -- kind 10: bit 8 withdrawn, bits 7–0 plan year
 abbrev pub withdrawnOf : ℕ → Bool
@@ -51,7 +102,7 @@ withdrawnOf w = eqb (bits w 8 8) 1
 abbrev pub planOf : ℕ → ℕ
 planOf w = bits w 7 0
 
--- a cell's entry, from its three words: kind 10, kind 11 (O), kind 12 (B)
+-- a cell's entry, from its own words: kind 10, kind 11 (O), kind 12 (B)
 unfoldable pub entryOf : List ℕ → Entry
 entryOf w =
     record {
@@ -61,33 +112,46 @@ entryOf w =
       burned = number (getD w 2 0);
     }
 
--- the three words of cell i, and its entry
-abbrev pub wordsOf : List ℕ → ℕ → List ℕ
-wordsOf b i = take entryWords (drop (entryAt i) b)
+-- the words of cell i, and its entry
+abbrev pub wordsOf : Shape → List ℕ → ℕ → List ℕ
+wordsOf s b i = take (s .entry) (drop (entryAt s i) b)
 
-abbrev pub entry : List ℕ → ℕ → Entry
-entry b i = entryOf (wordsOf b i)
+abbrev pub entry : Shape → List ℕ → ℕ → Entry
+entry s b i = entryOf (wordsOf s b i)
 
 -- ---- words put together
 
-abbrev pub yearWord : ℕ → ℕ
-yearWord t = wordOf 8 t
+-- b, with a number in n words of a kind from place `from` on, high 28 bits first
+unfoldable pub stored : ℕ → List ℕ → ℕ → ℕ → ℕ → List ℕ
+stored kind b from zero x = b
+stored kind b from (suc n) x = stored kind (set b (from + n) (wordOf kind (x % 2 ^ 28))) from n (x / 2 ^ 28)
 
-abbrev pub issuedWord : ℕ → ℕ
-issuedWord tonnes = wordOf 9 tonnes
+abbrev pub withYear : List ℕ → ℕ → List ℕ
+withYear b t = stored yearKind b yearAt 1 t
+
+abbrev pub withIssued : Shape → List ℕ → ℕ → List ℕ
+withIssued s b tonnes = stored issuedKind b issuedAt (issuedWords s) tonnes
 
 abbrev pub planWord : Bool → ℕ → ℕ
-planWord withdrawn plan = wordOf 10 (cond withdrawn 1 0 * 2 ^ 8 + plan)
+planWord withdrawn plan = wordOf planKind (cond withdrawn 1 0 * 2 ^ 8 + plan)
+
+-- b, with the mark and the plan year of entry e as those of cell i
+abbrev pub withPlan : Shape → List ℕ → ℕ → Entry → List ℕ
+withPlan s b i e = set b (entryAt s i) (planWord (e .withdrawn) (e .plan))
 
 abbrev pub oxidisedWord : ℕ → ℕ
-oxidisedWord mm = wordOf 11 mm
+oxidisedWord mm = wordOf oxidisedKind mm
 
 abbrev pub burnedWord : ℕ → ℕ
-burnedWord mm = wordOf 12 mm
+burnedWord mm = wordOf burnedKind mm
+
+-- the n words of a cell that hold its entry
+unfoldable pub heldWords : ℕ → Entry → List ℕ
+heldWords n e = take n (planWord (e .withdrawn) (e .plan) ∷ oxidisedWord (e .oxidised) ∷ burnedWord (e .burned) ∷ [])
 
 -- the three lines of a cell: kind 13 oxidised, 14 burned, 15 kg
 unfoldable pub linesOf : Loss → List ℕ
-linesOf s = wordOf 13 (s .oxidised) ∷ wordOf 14 (s .burned) ∷ wordOf 15 (s .kg) ∷ []
+linesOf s = wordOf oxidisedLineKind (s .oxidised) ∷ wordOf burnedLineKind (s .burned) ∷ wordOf kgLineKind (s .kg) ∷ []
 
 -- cell i's lines are the numbers that a closing left for it in the lines buffer x
 abbrev pub lineAt : ℕ → List ℕ → ℕ → ℕ

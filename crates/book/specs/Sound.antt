@@ -1,5 +1,7 @@
 -- What an accepted book guarantees, for the contracts of its readers and for the crates above. proofs/Sound.antt makes it from the check's answer.
-use Prim.Native.Nat.{ℕ, _+_, _^_, _≤_, _<_}
+use mathlib.Core.Path.{_≡_}
+use mathlib.Core.Bool.{Bool, true}
+use Prim.Native.Nat.{ℕ, _+_, _*_, _^_, _≤_, _<_}
 use mathlib.Core.List.{List}
 use lib.ListN.{length}
 use Rattle.fields.specs.declared.Head.{Head}
@@ -7,18 +9,36 @@ use Rattle.fields.specs.declared.Cell.{Cell}
 use Rattle.listing.specs.Layout.{head, cells, horizon, cell}
 use Rattle.listing.specs.Accepted.{Accepted}
 use Rattle.year.specs.Year.{mostLoss}
+use Rattle.year.specs.Fit.{Fit}
 use Rattle.year.specs.declared.Entry.{Entry}
-use Rattle.book.specs.Layout.{entryWords, entryAt, bookSize, year, issued, entry}
+use Rattle.book.specs.Layout.{Sized, Shaped, entryAt, bookSize, issuedWords, year, issued, entryOf, wordsOf, entry}
+use Rattle.book.specs.Check.{headRight, entryRight}
+use Rattle.book.specs.declared.Shape.{Shape}
 
 -- an accepted listing, and room for its book
-pub record Fitted (l b : List ℕ) : Type 0 where
+pub record Fitted (s : Shape) (l b : List ℕ) : Type 0 where
+  pub shaped : Shaped s
   pub accepted : Accepted l
-  pub room : bookSize (cells l) ≤ length b
+  pub room : bookSize s (cells l) ≤ length b
 
 -- room for the words of cell i
-pub record Room (b : List ℕ) (i : ℕ) : Type 0 where
-  pub in-book : entryAt i + entryWords ≤ length b
+pub record Room (s : Shape) (b : List ℕ) (i : ℕ) : Type 0 where
+  pub shaped : Shaped s
+  pub in-book : entryAt s i + s .entry ≤ length b
   pub small : i < 2 ^ 32
+
+-- ---- words
+
+-- all before place n are right
+pub record All (right : ℕ → Bool) (n : ℕ) : Type 0 where
+  pub each : (k : ℕ) → k < n → right k ≡ true
+
+-- all words of the book
+pub record Right (s : Shape) (l b : List ℕ) : Type 0 where
+  pub head-words : All (headRight (horizon l) b) (s .head)
+  pub entry-words : (i : ℕ) → i < cells l → All (entryRight (head l) (cell l i) (wordsOf s b i)) (s .entry)
+
+-- ---- what they say
 
 -- an entry's figures, by the head and the cell of the listing
 pub record EntryRight (h : Head) (c : Cell) (e : Entry) : Type 0 where
@@ -26,9 +46,21 @@ pub record EntryRight (h : Head) (c : Cell) (e : Entry) : Type 0 where
   pub most : e .oxidised + e .burned ≤ mostLoss h c
   pub lost : e .oxidised + e .burned ≤ c .entered
 
+-- an entry that fits its words
+pub record Storable (e : Entry) : Type 0 where
+  pub plan : e .plan < 2 ^ 8
+  pub oxidised : e .oxidised < 2 ^ 28
+  pub burned : e .burned < 2 ^ 28
+
+-- a cell's own words, by the head and the cell of the listing: its kg to date can be worked out from them
+pub record WordsRight (h : Head) (c : Cell) (w : List ℕ) : Type 0 where
+  pub sized : Sized (length w)
+  pub fit : Fit h c (entryOf w .oxidised) (entryOf w .burned)
+
 -- all of it
-pub record Sound (l b : List ℕ) : Type 0 where
-  pub fitted : Fitted l b
+pub record Sound (s : Shape) (l b : List ℕ) : Type 0 where
+  pub fitted : Fitted s l b
   pub year : year b ≤ horizon l
-  pub issued : issued b < 2 ^ 28
-  pub entry-right : (i : ℕ) → i < cells l → EntryRight (head l) (cell l i) (entry b i)
+  pub issued : issued s b < 2 ^ (28 * issuedWords s)
+  pub entry-right : (i : ℕ) → i < cells l → EntryRight (head l) (cell l i) (entry s b i)
+  pub words-right : (i : ℕ) → i < cells l → WordsRight (head l) (cell l i) (wordsOf s b i)

@@ -1,5 +1,5 @@
 // The book: where its words stand and what they say, its check, and the refusals with which every
-// call begins.
+// call begins. Each takes the book's shape.
 ghost use mathlib.Core.Path.{_≡_};
 ghost use mathlib.Core.Bool.{true};
 ghost use Prim.Native.Nat.{_+_, _*_, _^_, _<_, _≤_};
@@ -9,115 +9,197 @@ ghost use Rattle.words.specs.Search.{firstWrong};
 ghost use Rattle.words.specs.Answers.{outcome};
 ghost use Rattle.listing.specs.Layout.{head, cells};
 ghost use Rattle.listing.specs.Accepted.{Accepted};
-ghost use Rattle.book.specs.Layout.{bookHead, entryWords, lineWords, yearAt, issuedAt, entryAt, bookSize, year, issued, entryOf, entry, yearWord, issuedWord, planWord};
-ghost use Rattle.book.specs.Check.{isYearWord, isPlanWord, isBurnedWord, bookRight, roomChecked, fitted, bookChecked, admitted};
-ghost use Rattle.book.specs.Sound.{Fitted, Room};
+ghost use Rattle.year.specs.Year.{kgOf};
+ghost use Rattle.book.specs.Layout.{Sized, Shaped, yearAt, issuedWords, entryAt, bookSize, joined, year, issued, entryOf, wordsOf, entry, withYear, stored, withIssued, planWord, withPlan, heldWords};
+ghost use Rattle.book.specs.Check.{isYearWord, isPlanWord, isBurnedWord, isHeadWord, headRight, entryRight, bookRight, roomChecked, fitted, bookChecked, admitted};
+ghost use Rattle.book.specs.Sound.{Fitted, Room, All, Storable, WordsRight};
+use fields::Cell;
 use fields::Head;
 use words::BOOK_SHORT;
 use words::BOOK_WORD;
-use words::LINES_SHORT;
 use words::Outcome;
 use words::bits;
 use words::refuse;
 use year::Entry;
 
-// The words of a book's head, and those of a cell in it.
-pub const BOOK_HEAD: usize = 2;
+// How many words a book's head has, and a cell in it.
+pub struct Shape {
+    pub head: usize,
+    pub entry: usize,
+}
 
-pub const ENTRY_WORDS: usize = 3;
+// The book that the calls take: a head of 2 words, and 3 words for each cell.
+pub const BOOK: Shape = Shape { head: 2, entry: 3 };
 
 // The words of a cell in the lines of a closing.
 pub const LINE_WORDS: usize = 3;
 
-// Where the current year and the tonnes issued stand.
+// The kinds of its words: year, tonnes issued, mark and plan year, mm oxidised, mm burned.
+const YEAR_KIND: u32 = 8;
+
+const ISSUED_KIND: u32 = 9;
+
+const PLAN_KIND: u32 = 10;
+
+const OXIDISED_KIND: u32 = 11;
+
+const BURNED_KIND: u32 = 12;
+
+// And of a cell's lines.
+pub const OXIDISED_LINE_KIND: u32 = 13;
+
+pub const BURNED_LINE_KIND: u32 = 14;
+
+pub const KG_LINE_KIND: u32 = 15;
+
+// Where the current year stands, and from where on the tonnes issued do.
 const YEAR_AT: usize = 0;
 
 const ISSUED_AT: usize = 1;
 
+// Where cell `i` begins; at the number of cells, how many words a book needs.
+pub fn entry_at(s: Shape, i: usize) -> usize
+    requires { ⌜ Shaped s × (i < 2 ^ 32) ⌝ }
+    ensures { λ r. ⌜ r ≡ entryAt s i ⌝ }
+{
+    s.head + s.entry * i
+}
+
+// The words of cell `i`.
+pub fn words_of(s: Shape, book: &[u32], i: usize) -> &[u32]
+    requires { ⌜ Room s (now book) i ⌝ }
+    ensures { λ r. ⌜ now r ≡ wordsOf s (now (book .entry)) i ⌝ }
+{
+    let a = entry_at(s, i);
+    let e = a + s.entry;
+    &book[a..e]
+}
+
 fn is_year_word(w: u32, horizon: u32) -> bool
     ensures { λ r. ⌜ r ≡ isYearWord horizon w ⌝ }
 {
-    words::is_kind(w, 8) & words::between(w, 27, 0, 0, horizon)
+    words::is_kind(w, YEAR_KIND) & words::between(w, 27, 0, 0, horizon)
 }
 
 fn is_plan_word(w: u32, horizon: u32) -> bool
     ensures { λ r. ⌜ r ≡ isPlanWord horizon w ⌝ }
 {
-    words::is_kind(w, 10) & (bits(w, 27, 9) == 0) & words::between(w, 7, 0, 0, horizon)
+    words::is_kind(w, PLAN_KIND) & (bits(w, 27, 9) == 0) & words::between(w, 7, 0, 0, horizon)
 }
 
-// Whether a cell's last word is right, behind its word of mm oxidised: not more is lost than `most`.
+// Whether a cell's word of mm burned is right, behind its word of mm oxidised: not more is lost than
+// `most`.
 fn is_burned_word(before: u32, w: u32, most: u32) -> bool
     ensures { λ r. ⌜ r ≡ isBurnedWord most before w ⌝ }
 {
-    words::is_kind(w, 12) & (bits(before, 27, 0) + bits(w, 27, 0) <= most)
+    words::is_kind(w, BURNED_KIND) & (bits(before, 27, 0) + bits(w, 27, 0) <= most)
 }
 
-// Whether the word at `k` is right.
-fn word_right(listing: &[u32], h: Head, book: &[u32], k: usize) -> bool
-    requires { ⌜ Fitted (now listing) (now book) × (h ≡ head (now listing)) × (k < bookSize (cells (now listing))) ⌝ }
-    ensures { λ r. ⌜ r ≡ bookRight (now (listing .entry)) (now (book .entry)) k ⌝ }
+// Whether the word at `k` of the head is right.
+fn is_head_word(w: u32, k: usize, horizon: u32) -> bool
+    ensures { λ r. ⌜ r ≡ isHeadWord horizon k w ⌝ }
 {
     if k == YEAR_AT {
-        return is_year_word(book[k], h.horizon);
+        return is_year_word(w, horizon);
     }
-    if k < BOOK_HEAD {
-        return words::is_kind(book[k], 9);
-    }
-    let turn = (k - BOOK_HEAD) % ENTRY_WORDS;
-    if turn == 0 {
-        return is_plan_word(book[k], h.horizon);
-    }
-    if turn == 1 {
-        return words::is_kind(book[k], 11);
-    }
-    let c = listing::cell(listing, (k - BOOK_HEAD) / ENTRY_WORDS);
-    is_burned_word(book[k - 1], book[k], year::most_loss(h, c))
+    words::is_kind(w, ISSUED_KIND)
 }
 
-// Whether every word of a book is right: without a branch for each word, since most books are.
-fn book_clean(listing: &[u32], h: Head, book: &[u32], end: usize) -> bool
-    requires { ⌜ Fitted (now listing) (now book) × (h ≡ head (now listing)) × (end ≡ bookSize (cells (now listing))) ⌝ }
-    ensures { λ r. ⌜ (r ≡ true → end ≡ firstWrong (bookRight (now (listing .entry)) (now (book .entry))) 0 end) ⌝ }
+// The first word of a book's head that is not right; where there is none, the head's size.
+fn head_wrong(s: Shape, h: Head, book: &[u32]) -> usize
+    requires { ⌜ s .head ≤ length (now book) ⌝ }
+    ensures { λ r. ⌜ r ≡ firstWrong (headRight (h .horizon) (now (book .entry))) 0 (s .head) ⌝ }
+{
+    let mut k: usize = 0;
+    while k < s.head {
+        if !is_head_word(book[k], k, h.horizon) {
+            break;
+        }
+        k += 1;
+    }
+    k
+}
+
+// Whether all of a cell's own words are right: without a branch for each, since most are.
+fn entry_clean(h: Head, c: Cell, entry: &[u32]) -> bool
+    requires { ⌜ Sized (length (now entry)) ⌝ }
+    ensures { λ r. ⌜ (r ≡ true → All (entryRight h c (now (entry .entry))) (length (now (entry .entry)))) ⌝ }
+{
+    let plan = is_plan_word(entry[0], h.horizon);
+    let oxidised = words::is_kind(entry[1], OXIDISED_KIND);
+    plan & oxidised & is_burned_word(entry[1], entry[2], year::most_loss(h, c))
+}
+
+// The first of a cell's own words that is not right; where there is none, their number.
+fn entry_wrong(h: Head, c: Cell, entry: &[u32]) -> usize
+    requires { ⌜ Sized (length (now entry)) ⌝ }
+    ensures { λ r. ⌜ r ≡ firstWrong (entryRight h c (now (entry .entry))) 0 (length (now (entry .entry))) ⌝ }
+{
+    if !is_plan_word(entry[0], h.horizon) {
+        return 0;
+    }
+    if !words::is_kind(entry[1], OXIDISED_KIND) {
+        return 1;
+    }
+    if !is_burned_word(entry[1], entry[2], year::most_loss(h, c)) {
+        return 2;
+    }
+    entry.len()
+}
+
+// Whether the words of all cells are right, without a branch for each cell.
+fn cells_clean(s: Shape, listing: &[u32], h: Head, book: &[u32], end: usize) -> bool
+    requires { ⌜ Fitted s (now listing) (now book) × (h ≡ head (now listing)) × (end ≡ bookSize s (cells (now listing))) ⌝ }
+    ensures { λ r. ⌜ (r ≡ true → end ≡ firstWrong (bookRight s (now (listing .entry)) (now (book .entry))) (s .head) end) ⌝ }
 {
     let cells = h.cells as usize;
-    let mut clean = is_year_word(book[YEAR_AT], h.horizon) & words::is_kind(book[ISSUED_AT], 9);
+    let mut clean = true;
     let mut i: usize = 0;
     while i < cells {
-        let at = BOOK_HEAD + ENTRY_WORDS * i;
-        let most = year::most_loss(h, listing::cell(listing, i));
-        clean = clean & is_plan_word(book[at], h.horizon);
-        clean = clean & words::is_kind(book[at + 1], 11);
-        clean = clean & is_burned_word(book[at + 1], book[at + 2], most);
+        clean = clean & entry_clean(h, listing::cell(listing, i), words_of(s, book, i));
         i += 1;
     }
     clean
 }
 
-// The first word of a book that is not right; where there is none, `end`.
-fn first_wrong(listing: &[u32], h: Head, book: &[u32], end: usize) -> usize
-    requires { ⌜ Fitted (now listing) (now book) × (h ≡ head (now listing)) × (end ≡ bookSize (cells (now listing))) ⌝ }
-    ensures { λ r. ⌜ r ≡ firstWrong (bookRight (now (listing .entry)) (now (book .entry))) 0 end ⌝ }
+// The first word of the cells that is not right; where there is none, `end`.
+fn cells_wrong(s: Shape, listing: &[u32], h: Head, book: &[u32], end: usize) -> usize
+    requires { ⌜ Fitted s (now listing) (now book) × (h ≡ head (now listing)) × (end ≡ bookSize s (cells (now listing))) ⌝ }
+    ensures { λ r. ⌜ r ≡ firstWrong (bookRight s (now (listing .entry)) (now (book .entry))) (s .head) end ⌝ }
 {
-    if book_clean(listing, h, book, end) {
+    let cells = h.cells as usize;
+    let mut i: usize = 0;
+    while i < cells {
+        let j = entry_wrong(h, listing::cell(listing, i), words_of(s, book, i));
+        if j < s.entry {
+            return entry_at(s, i) + j;
+        }
+        i += 1;
+    }
+    end
+}
+
+// The first word of a book that is not right; where there is none, `end`.
+fn first_wrong(s: Shape, listing: &[u32], h: Head, book: &[u32], end: usize) -> usize
+    requires { ⌜ Fitted s (now listing) (now book) × (h ≡ head (now listing)) × (end ≡ bookSize s (cells (now listing))) ⌝ }
+    ensures { λ r. ⌜ r ≡ firstWrong (bookRight s (now (listing .entry)) (now (book .entry))) 0 end ⌝ }
+{
+    let k = head_wrong(s, h, book);
+    if k < s.head {
+        return k;
+    }
+    if cells_clean(s, listing, h, book, end) {
         return end;
     }
-    let mut at: usize = 0;
-    while at < end {
-        if !word_right(listing, h, book, at) {
-            break;
-        }
-        at += 1;
-    }
-    at
+    cells_wrong(s, listing, h, book, end)
 }
 
 // Number 6, for a right listing.
-fn check_room(listing: &[u32], book: &[u32]) -> Outcome
-    requires { ⌜ Accepted (now listing) ⌝ }
-    ensures { λ r. ⌜ outcome r ≡ roomChecked (now (listing .entry)) (now (book .entry)) ⌝ }
+pub fn check_room(s: Shape, listing: &[u32], book: &[u32]) -> Outcome
+    requires { ⌜ Shaped s × Accepted (now listing) ⌝ }
+    ensures { λ r. ⌜ outcome r ≡ roomChecked s (now (listing .entry)) (now (book .entry)) ⌝ }
 {
-    let size = BOOK_HEAD + ENTRY_WORDS * listing::head(listing).cells as usize;
+    let size = entry_at(s, listing::head(listing).cells as usize);
     if book.len() < size {
         return refuse(BOOK_SHORT, book.len());
     }
@@ -125,64 +207,74 @@ fn check_room(listing: &[u32], book: &[u32]) -> Outcome
 }
 
 // Numbers 1 to 6: a right listing, and room for its book.
-pub fn fits(listing: &[u32], book: &[u32]) -> Outcome
-    ensures { λ r. ⌜ outcome r ≡ fitted (now (listing .entry)) (now (book .entry)) ⌝ }
+pub fn fits(s: Shape, listing: &[u32], book: &[u32]) -> Outcome
+    requires { ⌜ Shaped s ⌝ }
+    ensures { λ r. ⌜ outcome r ≡ fitted s (now (listing .entry)) (now (book .entry)) ⌝ }
 {
     match listing::check(listing) {
-        Outcome::Done => check_room(listing, book),
+        Outcome::Done => check_room(s, listing, book),
         Outcome::Refused(why) => Outcome::Refused(why),
     }
 }
 
-// Numbers 7 and 8: room for `per_cell` line words of each cell in `room` words, and a right book.
-fn check_book(listing: &[u32], book: &[u32], per_cell: usize, room: usize) -> Outcome
-    requires { ⌜ Fitted (now listing) (now book) × («per_cell» ≤ lineWords) ⌝ }
-    ensures { λ r. ⌜ outcome r ≡ bookChecked (now (listing .entry)) (now (book .entry)) «per_cell» room ⌝ }
+// Number 8, for a right listing and a book that has room.
+pub fn check_book(s: Shape, listing: &[u32], book: &[u32]) -> Outcome
+    requires { ⌜ Fitted s (now listing) (now book) ⌝ }
+    ensures { λ r. ⌜ outcome r ≡ bookChecked s (now (listing .entry)) (now (book .entry)) ⌝ }
 {
     let h = listing::head(listing);
-    let cells = h.cells as usize;
-    if room < per_cell * cells {
-        return refuse(LINES_SHORT, room);
-    }
-    let end = BOOK_HEAD + ENTRY_WORDS * cells;
-    let at = first_wrong(listing, h, book, end);
+    let end = entry_at(s, h.cells as usize);
+    let at = first_wrong(s, listing, h, book, end);
     if at < end {
         return refuse(BOOK_WORD, at);
     }
     Outcome::Done
 }
 
-// Numbers 1 to 8, with which every call on an open book begins. Only a closing has lines: the others
-// ask for 0 words in 0.
-pub fn admit(listing: &[u32], book: &[u32], per_cell: usize, room: usize) -> Outcome
-    requires { ⌜ «per_cell» ≤ lineWords ⌝ }
-    ensures { λ r. ⌜ outcome r ≡ admitted (now (listing .entry)) (now (book .entry)) «per_cell» room ⌝ }
+// Numbers 1 to 6 and 8, with which every call on an open book begins.
+pub fn admit(s: Shape, listing: &[u32], book: &[u32]) -> Outcome
+    requires { ⌜ Shaped s ⌝ }
+    ensures { λ r. ⌜ outcome r ≡ admitted s (now (listing .entry)) (now (book .entry)) ⌝ }
 {
-    match fits(listing, book) {
-        Outcome::Done => check_book(listing, book, per_cell, room),
+    match fits(s, listing, book) {
+        Outcome::Done => check_book(s, listing, book),
         Outcome::Refused(why) => Outcome::Refused(why),
     }
 }
 
+// The number in `n` words, one or two, from `from` on.
+fn joined(book: &[u32], from: usize, n: usize) -> u64
+    requires { ⌜ (n ≤ 2) × (from + n ≤ length (now book)) ⌝ }
+    ensures { λ r. ⌜ r ≡ joined (now (book .entry)) from n ⌝ }
+{
+    let mut x: u64 = 0;
+    let mut k: usize = 0;
+    while k < n {
+        x = x * 268_435_456 + bits(book[from + k], 27, 0) as u64;
+        k += 1;
+    }
+    x
+}
+
 // The current year.
 pub fn year(book: &[u32]) -> u32
-    requires { ⌜ bookHead ≤ length (now book) ⌝ }
+    requires { ⌜ yearAt < length (now book) ⌝ }
     ensures { λ r. ⌜ r ≡ year (now (book .entry)) ⌝ }
 {
     bits(book[YEAR_AT], 27, 0)
 }
 
 // The tonnes issued.
-pub fn issued(book: &[u32]) -> u32
-    requires { ⌜ bookHead ≤ length (now book) ⌝ }
-    ensures { λ r. ⌜ r ≡ issued (now (book .entry)) ⌝ }
+pub fn issued(s: Shape, book: &[u32]) -> u64
+    requires { ⌜ Shaped s × (s .head ≤ length (now book)) ⌝ }
+    ensures { λ r. ⌜ r ≡ issued s (now (book .entry)) ⌝ }
 {
-    bits(book[ISSUED_AT], 27, 0)
+    joined(book, ISSUED_AT, s.head - ISSUED_AT)
 }
 
 // What a cell's own words say.
 pub fn entry_of(words: &[u32]) -> Entry
-    requires { ⌜ length (now words) ≡ entryWords ⌝ }
+    requires { ⌜ 3 ≤ length (now words) ⌝ }
     ensures { λ r. ⌜ r ≡ entryOf (now (words .entry)) ⌝ }
 {
     Entry {
@@ -194,13 +286,20 @@ pub fn entry_of(words: &[u32]) -> Entry
 }
 
 // What the book says of cell `i`.
-pub fn entry(book: &[u32], i: usize) -> Entry
-    requires { ⌜ Room (now book) i ⌝ }
-    ensures { λ r. ⌜ r ≡ entry (now (book .entry)) i ⌝ }
+pub fn entry(s: Shape, book: &[u32], i: usize) -> Entry
+    requires { ⌜ Room s (now book) i ⌝ }
+    ensures { λ r. ⌜ r ≡ entry s (now (book .entry)) i ⌝ }
 {
-    let a = BOOK_HEAD + ENTRY_WORDS * i;
-    let e = a + ENTRY_WORDS;
-    entry_of(&book[a..e])
+    entry_of(words_of(s, book, i))
+}
+
+// The kg to date of a cell, from its own words.
+pub fn kg_of(h: Head, c: Cell, words: &[u32]) -> u32
+    requires { ⌜ WordsRight h c (now words) ⌝ }
+    ensures { λ r. ⌜ r ≡ kgOf h c (entryOf (now (words .entry))) ⌝ }
+{
+    let e = entry_of(words);
+    year::emission(h, c, e.oxidised, e.burned)
 }
 
 // Writes the word of a kind at `at`.
@@ -211,28 +310,60 @@ fn put_number(book: &mut [u32], at: usize, kind: u32, number: u32)
     book[at] = words::word(kind, number);
 }
 
+// Writes a number into `n` words of a kind, from `from` on.
+fn put_joined(book: &mut [u32], from: usize, n: usize, kind: u32, x: u64)
+    requires { ⌜ (from + n ≤ length (now book)) × (kind < 16) ⌝ }
+    ensures { λ _. ⌜ now (book .exit) ≡ stored kind (now (book .entry)) from n x ⌝ }
+{
+    let mut rest = x;
+    let mut k = n;
+    while 0 < k {
+        k -= 1;
+        put_number(book, from + k, kind, (rest % 268_435_456) as u32);
+        rest = rest / 268_435_456;
+    }
+}
+
 // Writes the current year.
 pub fn put_year(book: &mut [u32], year: u32)
-    requires { ⌜ (bookHead ≤ length (now book)) × (year < 2 ^ 28) ⌝ }
-    ensures { λ _. ⌜ now (book .exit) ≡ set (now (book .entry)) yearAt (yearWord year) ⌝ }
+    requires { ⌜ yearAt < length (now book) ⌝ }
+    ensures { λ _. ⌜ now (book .exit) ≡ withYear (now (book .entry)) year ⌝ }
 {
-    put_number(book, YEAR_AT, 8, year);
+    put_joined(book, YEAR_AT, 1, YEAR_KIND, year as u64);
 }
 
 // Writes the tonnes issued.
-pub fn put_issued(book: &mut [u32], tonnes: u32)
-    requires { ⌜ (bookHead ≤ length (now book)) × (tonnes < 2 ^ 28) ⌝ }
-    ensures { λ _. ⌜ now (book .exit) ≡ set (now (book .entry)) issuedAt (issuedWord tonnes) ⌝ }
+pub fn put_issued(s: Shape, book: &mut [u32], tonnes: u64)
+    requires { ⌜ Shaped s × (s .head ≤ length (now book)) × (tonnes < 2 ^ (28 * issuedWords s)) ⌝ }
+    ensures { λ _. ⌜ now (book .exit) ≡ withIssued s (now (book .entry)) tonnes ⌝ }
 {
-    put_number(book, ISSUED_AT, 9, tonnes);
+    put_joined(book, ISSUED_AT, s.head - ISSUED_AT, ISSUED_KIND, tonnes);
 }
 
-// Writes the mark and the plan year of cell `i`.
-pub fn put_plan(book: &mut [u32], i: usize, withdrawn: bool, plan: u32)
-    requires { ⌜ Room (now book) i × (plan < 2 ^ 8) ⌝ }
-    ensures { λ _. ⌜ now (book .exit) ≡ set (now (book .entry)) (entryAt i) (planWord withdrawn plan) ⌝ }
+// The word of a mark and a plan year.
+fn plan_word(withdrawn: bool, plan: u32) -> u32
+    requires { ⌜ plan < 2 ^ 8 ⌝ }
+    ensures { λ r. ⌜ r ≡ planWord withdrawn plan ⌝ }
 {
-    let at = BOOK_HEAD + ENTRY_WORDS * i;
     let mark = if withdrawn { 1 } else { 0 };
-    book[at] = words::word(10, (mark << 8) | plan);
+    words::word(PLAN_KIND, (mark << 8) | plan)
+}
+
+// Writes the mark and the plan year of an entry as those of cell `i`.
+pub fn put_plan(s: Shape, book: &mut [u32], i: usize, e: Entry)
+    requires { ⌜ Room s (now book) i × (e .plan < 2 ^ 8) ⌝ }
+    ensures { λ _. ⌜ now (book .exit) ≡ withPlan s (now (book .entry)) i e ⌝ }
+{
+    let at = entry_at(s, i);
+    book[at] = plan_word(e.withdrawn, e.plan);
+}
+
+// Writes a cell's own words.
+pub fn put_entry(words: &mut [u32], e: Entry)
+    requires { ⌜ Sized (length (now words)) × Storable e ⌝ }
+    ensures { λ _. ⌜ now (words .exit) ≡ heldWords (length (now (words .entry))) e ⌝ }
+{
+    words[0] = plan_word(e.withdrawn, e.plan);
+    words[1] = words::word(OXIDISED_KIND, e.oxidised);
+    words[2] = words::word(BURNED_KIND, e.burned);
 }

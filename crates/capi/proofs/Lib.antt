@@ -1,3 +1,2 @@
--- Laws of the answers that cross to C and Rust.
-pub mod Sent
+-- The theorem on the numbers that cross to C and Rust.
 pub mod Numbers

@@ -9,8 +9,10 @@ use Rattle.words.specs.Answers.{Answer, accepted, refused, need, unfound, after
 use Rattle.words.proofs.Answers.{need-either, unfound-either, after-either}
 use Rattle.listing.specs.Check.{checked}
 use Rattle.listing.proofs.Numbers.{checked-either}
-use Rattle.book.specs.Check.{roomChecked, fitted, bookChecked, admitted}
-use Rattle.closing.specs.Closing.{yearChecked, closeAnswer}
+use Rattle.book.specs.Current.{fitted, bookChecked, admitted}
+use Rattle.book.specs.Check.{roomChecked}
+use Rattle.book.specs.Check as check
+use Rattle.closing.specs.Closing.{linesChecked, yearChecked, closeAnswer}
 use Rattle.ledger.specs.Calls.{opening, closing, cellChecked, reached, markChecked, standing, planChecked, replanAnswer, replanning, withdrawing, issueAnswer, issuing, stating}
 use Rattle.forecast.specs.Forecast.{outputChecked, forecastAnswer, forecasting}
 use Rattle.reading.specs.Depth.{core, levels, depth}
@@ -42,16 +44,20 @@ listing-numbered : (l : List ℕ) → Numbered (checked l)
 listing-numbered = checked-either Numbered (λ n k low _. refusal n k low) (none 0)
 
 fitted-numbered : (l b : List ℕ) → Numbered (fitted l b)
-unfolding fitted roomChecked
+unfolding check.fitted roomChecked
 fitted-numbered l b = then _ _ (listing-numbered l) (needed _ 6 _ _ (omega arith) (none _))
 
-admitted-numbered : (l b : List ℕ) (perCell room : ℕ) → Numbered (admitted l b perCell room)
-unfolding admitted bookChecked
-admitted-numbered l b perCell room = then _ _ (fitted-numbered l b) (needed _ 7 _ _ (omega arith) (searched 8 _ _ _ (omega arith) (none _)))
+book-numbered : (l b : List ℕ) → Numbered (bookChecked l b)
+unfolding check.bookChecked
+book-numbered l b = searched 8 _ _ _ (omega arith) (none _)
+
+admitted-numbered : (l b : List ℕ) → Numbered (admitted l b)
+unfolding check.admitted
+admitted-numbered l b = then _ _ (fitted-numbered l b) (book-numbered l b)
 
 reached-numbered : (l b : List ℕ) (i : ℕ) → Numbered (reached l b i)
 unfolding reached cellChecked
-reached-numbered l b i = then _ _ (admitted-numbered l b 0 0) (needed _ 10 _ _ (omega arith) (none _))
+reached-numbered l b i = then _ _ (admitted-numbered l b) (needed _ 10 _ _ (omega arith) (none _))
 
 standing-numbered : (l b : List ℕ) (i : ℕ) → Numbered (standing l b i)
 unfolding standing markChecked
@@ -64,14 +70,14 @@ depth-numbered (Levels surface base) = needed _ 16 _ _ (omega arith) (needed _ 1
 depth-numbered Missing = record { exactly = refl }
 
 pub every-number : EveryNumber
-unfolding opening closing closeAnswer yearChecked replanning replanAnswer planChecked withdrawing issuing issueAnswer stating forecasting forecastAnswer outputChecked discount
+unfolding opening closing closeAnswer linesChecked yearChecked replanning replanAnswer planChecked withdrawing issuing issueAnswer stating forecasting forecastAnswer outputChecked discount
 every-number =
     record {
       of-open = fitted-numbered;
-      of-close = λ l b x. then _ _ (admitted-numbered l b 3 _) (needed _ 9 _ _ (omega arith) (searched 14 _ _ _ (omega arith) (none _)));
+      of-close = λ l b x. then _ _ (fitted-numbered l b) (then _ _ (needed _ 7 _ _ (omega arith) (none _)) (then _ _ (book-numbered l b) (needed _ 9 _ _ (omega arith) (searched 14 _ _ _ (omega arith) (none _)))));
       of-replan = λ l b i y. then _ _ (standing-numbered l b i) (needed _ 12 _ _ (omega arith) (needed _ 13 _ _ (omega arith) (none _)));
       of-withdraw = standing-numbered;
-      of-issue = λ l b. then _ _ (admitted-numbered l b 0 0) (none _);
+      of-issue = λ l b. then _ _ (admitted-numbered l b) (none _);
       of-statement = reached-numbered;
       of-forecast = λ l b x. then _ _ (fitted-numbered l b) (needed _ 15 _ _ (omega arith) (none _));
       of-depth = depth-numbered;

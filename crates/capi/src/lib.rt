@@ -1,17 +1,15 @@
 // The calls for C and Rust: numbers and slices cross the border, and answers as structs. A slice is
 // a pointer and then its length; include/peat.h has the declarations.
 ghost use mathlib.Core.Path.{_≡_};
-ghost use Rattle.words.specs.Answers.{accepted, refused, outcome};
-ghost use Rattle.ledger.specs.Calls.{opening, closing, replanning, withdrawing, issuedAs, issuing, statedAs, stating};
+ghost use Rattle.words.specs.Answers.{accepted, refused, outcome, amount};
+ghost use Rattle.ledger.specs.Calls.{opening, closing, replanning, withdrawing, issuing, statedAs, stating};
 ghost use Rattle.forecast.specs.Forecast.{forecasting};
-ghost use Rattle.reading.specs.Depth.{measured, depth};
+ghost use Rattle.reading.specs.Depth.{depth};
 ghost use Rattle.reading.specs.declared.Reading.the-variants.{Core, Levels, Missing};
-ghost use Rattle.discount.specs.Discount.{discounted, discount};
+ghost use Rattle.discount.specs.Discount.{discount};
 ghost use Rattle.capi.specs.Sent.{sent, told};
-use discount::Discounted;
-use ledger::Issued;
 use ledger::Stated;
-use reading::Measured;
+use words::Amount;
 use words::Outcome;
 use words::Refusal;
 
@@ -67,30 +65,12 @@ fn of_outcome(answer: Outcome) -> Reply
     }
 }
 
-fn of_issued(answer: Issued) -> Reply
-    ensures { λ r. ⌜ r ≡ sent (issuedAs answer) ⌝ }
+fn of_amount(answer: Amount) -> Reply
+    ensures { λ r. ⌜ r ≡ sent (amount answer) ⌝ }
 {
     match answer {
-        Issued::Tonnes(tonnes) => accept(tonnes),
-        Issued::Refused(why) => refuse(why),
-    }
-}
-
-fn of_measured(answer: Measured) -> Reply
-    ensures { λ r. ⌜ r ≡ sent (measured answer) ⌝ }
-{
-    match answer {
-        Measured::Millimetres(mm) => accept(mm),
-        Measured::Refused(why) => refuse(why),
-    }
-}
-
-fn of_discounted(answer: Discounted) -> Reply
-    ensures { λ r. ⌜ r ≡ sent (discounted answer) ⌝ }
-{
-    match answer {
-        Discounted::TenThousandths(n) => accept(n),
-        Discounted::Refused(why) => refuse(why),
+        Amount::Value(value) => accept(value),
+        Amount::Refused(why) => refuse(why),
     }
 }
 
@@ -135,7 +115,7 @@ pub extern "C" fn peat_open(listing: &[u32], book: &mut [u32]) -> Reply
 pub extern "C" fn peat_close(listing: &[u32], book: &mut [u32], lines: &mut [u32]) -> Reply
     ensures { λ r. ⌜ r ≡ sent (closing (now (listing .entry)) (now (book .entry)) (now (lines .entry)) .answer) ⌝ }
     ensures { λ _. ⌜ now (book .exit) ≡ closing (now (listing .entry)) (now (book .entry)) (now (lines .entry)) .book ⌝ }
-    ensures { λ _. ⌜ now (lines .exit) ≡ closing (now (listing .entry)) (now (book .entry)) (now (lines .entry)) .lines ⌝ }
+    ensures { λ _. ⌜ now (lines .exit) ≡ closing (now (listing .entry)) (now (book .entry)) (now (lines .entry)) .output ⌝ }
 {
     of_outcome(ledger::close(listing, book, lines))
 }
@@ -162,7 +142,7 @@ pub extern "C" fn peat_issue(listing: &[u32], book: &mut [u32]) -> Reply
     ensures { λ r. ⌜ r ≡ sent (issuing (now (listing .entry)) (now (book .entry)) .answer) ⌝ }
     ensures { λ _. ⌜ now (book .exit) ≡ issuing (now (listing .entry)) (now (book .entry)) .book ⌝ }
 {
-    of_issued(ledger::issue(listing, book))
+    of_amount(ledger::issue(listing, book))
 }
 
 #[no_mangle]
@@ -186,7 +166,7 @@ pub extern "C" fn peat_forecast(listing: &[u32], book: &mut [u32], output: &mut 
 pub extern "C" fn peat_core(metres: f32) -> Reply
     ensures { λ r. ⌜ r ≡ sent (depth (Core metres)) ⌝ }
 {
-    of_measured(reading::core(metres))
+    of_amount(reading::core(metres))
 }
 
 // The depth between a pair of levels.
@@ -194,7 +174,7 @@ pub extern "C" fn peat_core(metres: f32) -> Reply
 pub extern "C" fn peat_levels(surface: f32, base: f32) -> Reply
     ensures { λ r. ⌜ r ≡ sent (depth (Levels surface base)) ⌝ }
 {
-    of_measured(reading::levels(surface, base))
+    of_amount(reading::levels(surface, base))
 }
 
 // The answer to a reading that is missing.
@@ -202,7 +182,7 @@ pub extern "C" fn peat_levels(surface: f32, base: f32) -> Reply
 pub extern "C" fn peat_missing() -> Reply
     ensures { λ r. ⌜ r ≡ sent (depth Missing) ⌝ }
 {
-    of_measured(reading::missing())
+    of_amount(reading::missing())
 }
 
 // The value is the discount in ten-thousandths.
@@ -215,5 +195,5 @@ pub extern "C" fn peat_discount(
 ) -> Reply
     ensures { λ r. ⌜ r ≡ sent (discount (now («first_widths» .entry)) (now («second_widths» .entry)) (now («first_stocks» .entry)) (now («second_stocks» .entry))) ⌝ }
 {
-    of_discounted(discount::discount(first_widths, second_widths, first_stocks, second_stocks))
+    of_amount(discount::discount(first_widths, second_widths, first_stocks, second_stocks))
 }

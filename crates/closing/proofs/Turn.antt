@@ -1,72 +1,62 @@
 -- A closing, one cell a turn: what a turn is lent and leaves. Assumes nothing.
-use mathlib.Core.Path.{_≡_, refl, ap, _∙_}
+use mathlib.Core.Path.{_≡_, refl, _∙_}
 use mathlib.Core.List.{List}
-use Prim.Native.Nat.{ℕ, zero-le, _+_, _-_, _*_, _≤_, _<_}
-use native.Mathlib.Nat.{le-antisymm}
+use Prim.Native.Nat.{ℕ, _+_, _-_, _*_, _≤_, _<_}
 use native.Mathlib.Omega.{arith}
 use lib.ListN.{length, take, drop}
 use borrow.Rule.Slice.PartMut.{putMid}
 use Rattle.words.specs.Blocks.{filled}
-use Rattle.words.proofs.Blocks.{filled-none, filled-part, filled-next, length-filled}
+use Rattle.words.proofs.Blocks.{Filling, filling-none, filling-lent, filling-lent-length, filling-next, filling-all}
 use Rattle.fields.specs.declared.Head.{Head}
 use Rattle.listing.specs.Layout.{head, cells, horizon, cell}
+use Rattle.year.specs.Year.{grown}
 use Rattle.year.specs.declared.Loss.{Loss}
-use Rattle.book.specs.Layout.{bookHead, entryWords, lineWords, entryAt, year, entryOf, wordsOf, linesOf}
-use Rattle.book.specs.Sound.{Sound}
-use Rattle.book.proofs.Entries.{words-sized}
-use Rattle.closing.specs.Closing.{cellLoss, loss, wordsAfter, closedWords, closedLines, linesAfter, mostNumber}
+use Rattle.book.specs.Current.{current, entryAt, wordsOf, Sound}
+use Rattle.book.specs.Layout.{Sized, lineWords, year, entryOf, heldWords, linesOf}
+use Rattle.book.proofs.Sound.{shaped}
+use Rattle.book.proofs.Held.{held-at-sized}
+use Rattle.closing.specs.Closing.{cellLoss, loss, closedEntry, closedWords, closedLines, linesAfter, mostNumber}
 use Rattle.closing.specs.Closable.{Losing, Timely, Closable}
-use Rattle.closing.proofs.Closable.{lost-then, timely-losing, timely-room}
+use Rattle.closing.proofs.Closable.{lost-then, timely-losing}
 
--- the words and the lines of a closed cell are three each
-pub three-words : (l b : List ℕ) (i : ℕ) → length (closedWords l b i) ≡ entryWords
-unfolding closedWords wordsAfter
-three-words l b i = refl
+-- the words of a closed cell are as many as the shape has, and its lines are three
+pub closed-sized : (l b : List ℕ) (i : ℕ) → length (closedWords l b i) ≡ current .entry
+closed-sized l b = held-at-sized current shaped (closedEntry l b)
 
-pub three-lines : (l b : List ℕ) (i : ℕ) → length (closedLines l b i) ≡ lineWords
+pub lines-sized : (l b : List ℕ) (i : ℕ) → length (closedLines l b i) ≡ lineWords
 unfolding closedLines linesOf
-three-lines l b i = refl
+lines-sized l b i = refl
 
 -- i cells are closed: b and d are the book and the lines at the start, x and y as they are now
 pub record Turned (l b d : List ℕ) (i : ℕ) (x y : List ℕ) : Type 0 where
-  pub at-most : i ≤ cells l
-  pub book-length : length x ≡ length b
-  pub lines-length : length y ≡ length d
-  pub book-is : x ≡ filled entryWords b bookHead (closedWords l b) i
-  pub lines-is : y ≡ filled lineWords d 0 (closedLines l b) i
+  pub book : Filling (current .entry) b (current .head) (closedWords l b) (cells l) i x
+  pub lines : Filling lineWords d 0 (closedLines l b) (cells l) i y
 
 module _ {l b : List ℕ} (d : List ℕ) (k : Closable l b (length d)) where
-  room : entryAt (cells l) ≤ length b
-  room = k .sound .fitted .room
-
   pub turned-none : Turned l b d 0 b d
-  turned-none =
-      record {
-        at-most = zero-le;
-        book-length = refl;
-        lines-length = refl;
-        book-is = filled-none entryWords b bookHead (closedWords l b) (three-words l b) (omega (arith, room));
-        lines-is = filled-none lineWords d 0 (closedLines l b) (three-lines l b) zero-le;
-      }
+  turned-none = record { book = filling-none (closed-sized l b) (k .sound .fitted .room); lines = filling-none (lines-sized l b) (omega (arith, k .room)) }
 
-  -- the turn of cell i
-  module _ {h : Head} {t : ℕ} (g : Timely l h b t) (i : ℕ) (lt : i < cells l) {x y : List ℕ} (r : Turned l b d i x y) where
+  -- the turn of cell i, whose words begin at a
+  module _ {h : Head} {t : ℕ} (g : Timely l h b t) (i : ℕ) (lt : i < cells l) {x y : List ℕ} (r : Turned l b d i x y) (a : ℕ) (here : a ≡ entryAt i) where
     -- its words that are lent
     abbrev lent : List ℕ
-    lent = take (entryAt i + entryWords - entryAt i) (drop (entryAt i) x)
+    lent = take (a + current .entry - a) (drop a x)
 
     -- they are as they were at the start
     lent-is : lent ≡ wordsOf b i
-    lent-is = filled-part entryWords b bookHead (closedWords l b) (three-words l b) (omega (arith, room)) i (entryAt i) (r .book-is) refl
+    lent-is = filling-lent (r .book) lt a here
 
-    pub turn-losing : (length lent ≡ entryWords) × (i < cells l) × Losing l h (cell l i) (entryOf lent) t
-    turn-losing = rw lent-is (words-sized b i (timely-room g i lt .in-book), lt, timely-losing g i lt)
+    lent-sized : length lent ≡ current .entry
+    lent-sized = filling-lent-length (r .book) lt a here
 
-    turn-loss : cellLoss l t i lent ≡ loss l b i
+    pub turn-losing : Sized (length lent) × (i < cells l) × Losing l h (cell l i) (entryOf lent) t
+    turn-losing = (rw lent-sized (shaped .entry), lt, rw lent-is (timely-losing g i lt))
+
+    turn-loss : cellLoss l t i (entryOf lent) ≡ loss l b i
     turn-loss = rw (lent-is, g .next)
 
     -- s is the loss that was told: its lines fit their words
-    module _ {s : Loss} (s-is : s ≡ cellLoss l t i lent) where
+    module _ {s : Loss} (s-is : s ≡ cellLoss l t i (entryOf lent)) where
       told : s ≡ loss l b i
       told = s-is ∙ turn-loss
 
@@ -76,31 +66,21 @@ module _ {l b : List ℕ} (d : List ℕ) (k : Closable l b (length d)) where
           rw told (omega arith, omega arith, k .fits i lt)
 
       -- ws and ls are the words and the lines that came back
-      module _ {ws ls : List ℕ} (ws-is : ws ≡ wordsAfter lent (cellLoss l t i lent)) (ls-is : ls ≡ linesOf s) where
+      module _ {ws ls : List ℕ} (ws-is : ws ≡ heldWords (length lent) (grown (entryOf lent) (cellLoss l t i (entryOf lent)))) (ls-is : ls ≡ linesOf s) where
         words-closed : ws ≡ closedWords l b i
-        unfolding closedWords
-        words-closed = rw (turn-loss, lent-is) at ws-is
+        words-closed = rw (lent-sized, turn-loss, lent-is) at ws-is
 
         lines-closed : ls ≡ closedLines l b i
         unfolding closedLines
         lines-closed = rw told at ls-is
 
-        pub turned-next : Turned l b d (i + 1) (putMid (entryAt i) (entryAt i + entryWords - entryAt i) x ws) (putMid (lineWords * i) (lineWords * i + lineWords - lineWords * i) y ls)
-        turned-next =
-            let book = filled-next entryWords b bookHead (closedWords l b) (three-words l b) (omega (arith, room)) i (entryAt i) (r .book-is) refl words-closed in
-            let lines = filled-next lineWords d 0 (closedLines l b) (three-lines l b) zero-le i (lineWords * i) (r .lines-is) (omega arith) lines-closed in
-            record {
-              at-most = omega arith;
-              book-length = ap length book ∙ length-filled entryWords b bookHead (closedWords l b) (three-words l b) (omega (arith, room)) (i + 1) (omega (arith, room));
-              lines-length = ap length lines ∙ length-filled lineWords d 0 (closedLines l b) (three-lines l b) zero-le (i + 1) (omega (arith, k .room));
-              book-is = book;
-              lines-is = lines;
-            }
+        pub turned-next : Turned l b d (i + 1) (putMid a (a + current .entry - a) x ws) (putMid (lineWords * i) (lineWords * i + lineWords - lineWords * i) y ls)
+        turned-next = record { book = filling-next (r .book) lt a here words-closed; lines = filling-next (r .lines) lt (lineWords * i) (omega arith) lines-closed }
 
 -- every cell is closed
-pub turned-all : {l b d : List ℕ} {i : ℕ} {x y : List ℕ} → Turned l b d i x y → cells l ≤ i → (x ≡ filled entryWords b bookHead (closedWords l b) (cells l)) × (y ≡ linesAfter l b d)
+pub turned-all : {l b d : List ℕ} {i : ℕ} {x y : List ℕ} → Turned l b d i x y → cells l ≤ i → (x ≡ filled (current .entry) b (current .head) (closedWords l b) (cells l)) × (y ≡ linesAfter l b d)
 unfolding linesAfter
-turned-all r le = let e = le-antisymm (r .at-most) le in (rw e at (r .book-is), rw e at (r .lines-is))
+turned-all r le = (filling-all (r .book) le, filling-all (r .lines) le)
 
 -- t is the year after the current one
 pub timely-next : {l b : List ℕ} {h : Head} {t : ℕ} → Sound l b → year b < horizon l → h ≡ head l → t ≡ year b + 1 → Timely l h b t

@@ -9,9 +9,9 @@ use Rattle.fields.specs.declared.Cell.{Cell}
 use Rattle.listing.specs.Layout.{head, cells, strata, horizon}
 use Rattle.listing.specs.Accepted.{Accepted}
 use Rattle.year.specs.declared.Entry.{Entry}
+use Rattle.book.specs.Current.{admitted, Sound}
 use Rattle.book.specs.Layout.{lineWords, year}
-use Rattle.book.specs.Check.{admitted}
-use Rattle.book.specs.Sound.{EntryRight, Sound}
+use Rattle.book.specs.Sound.{EntryRight}
 use Rattle.closing.specs.Closing.{loss, mostNumber}
 
 -- a cell c with entry e can be worked out for year t; h is the listing's head
@@ -31,7 +31,7 @@ pub record Timely (l : List ℕ) (h : Head) (b : List ℕ) (t : ℕ) : Type 0 wh
 
 -- what a closing with a lines buffer of `size` words is given
 pub record Closable (l b : List ℕ) (size : ℕ) : Type 0 where
-  pub admits : admitted l b lineWords size .done ≡ true
+  pub admits : admitted l b .done ≡ true
   pub sound : Sound l b
   pub ahead : year b < horizon l
   pub room : lineWords * cells l ≤ size

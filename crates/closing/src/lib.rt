@@ -2,29 +2,34 @@
 ghost use mathlib.Core.Path.{_≡_};
 ghost use Prim.Native.Nat.{_+_, _<_, _≤_};
 ghost use lib.ListN.{length};
-ghost use Rattle.words.specs.Answers.{outcome};
 ghost use Rattle.words.specs.Blocks.{filled};
+ghost use Rattle.words.specs.Answers.{outcome, after};
 ghost use Rattle.listing.specs.Layout.{head, cells, row, cell};
-ghost use Rattle.year.specs.Year.{yearLoss};
-ghost use Rattle.book.specs.Layout.{bookHead, entryWords, lineWords, entryOf, linesOf};
-ghost use Rattle.book.specs.Sound.{Sound};
-ghost use Rattle.closing.specs.Closing.{cellLoss, wordsAfter, closedWords, bookAfter, linesAfter, mostNumber, yearChecked, closeAnswer};
+ghost use Rattle.listing.specs.Accepted.{Accepted};
+ghost use Rattle.year.specs.Year.{kgOf, yearLoss, grown};
+ghost use Rattle.book.specs.Current.{current, bookChecked, Fitted, Sound};
+ghost use Rattle.book.specs.Layout.{Sized, lineWords, entryOf, heldWords, linesOf};
+ghost use Rattle.closing.specs.Closing.{cellLoss, closedWords, bookAfter, linesAfter, linesChecked, mostNumber, yearChecked, closeAnswer};
 ghost use Rattle.closing.specs.Closable.{Losing, Timely, Closable};
-use book::BOOK_HEAD;
-use book::ENTRY_WORDS;
+use book::BOOK;
+use book::BURNED_LINE_KIND;
+use book::KG_LINE_KIND;
 use book::LINE_WORDS;
+use book::OXIDISED_LINE_KIND;
 use fields::Cell;
 use fields::Head;
 use words::HORIZON_REACHED;
+use words::LINES_SHORT;
 use words::Outcome;
 use words::refuse;
 use words::word;
 use year::Entry;
 use year::Loss;
 
-// What a cell loses in `year`, by its own entry and the row of its own stratum and age.
-pub fn cell_loss(listing: &[u32], h: Head, c: Cell, e: Entry, year: u32) -> Loss
-    requires { ⌜ Losing (now listing) h c e year ⌝ }
+// What a cell loses in `year`, by its own entry and the row of its own stratum and age. `before` is
+// its kg to date.
+pub fn cell_loss(listing: &[u32], h: Head, c: Cell, e: Entry, before: u32, year: u32) -> Loss
+    requires { ⌜ Losing (now listing) h c e year × (before ≡ kgOf h c e) ⌝ }
     ensures { λ s. ⌜ s ≡ yearLoss (head (now (listing .entry))) (row (now (listing .entry))) c e year ⌝ }
 {
     if year::rests(h, c, e, year) {
@@ -36,11 +41,11 @@ pub fn cell_loss(listing: &[u32], h: Head, c: Cell, e: Entry, year: u32) -> Loss
     }
     let age = year - e.plan + 1;
     let r = listing::row(listing, c.stratum, age);
-    year::loss_of(h, c, r, e)
+    year::loss_of(h, c, r, e, before)
 }
 
 // Number 9, for a right book. Number 14 comes after it, and is proved not to arise: no kg line is
-// above 50,740,800.
+// above `mostLine` of year/specs/Year.antt.
 fn check_year(listing: &[u32], book: &[u32]) -> Outcome
     requires { ⌜ Sound (now listing) (now book) ⌝ }
     ensures { λ r. ⌜ outcome r ≡ yearChecked (now (listing .entry)) (now (book .entry)) ⌝ }
@@ -52,27 +57,60 @@ fn check_year(listing: &[u32], book: &[u32]) -> Outcome
     Outcome::Done
 }
 
+// Number 7, for a right listing.
+fn check_lines(listing: &[u32], room: usize) -> Outcome
+    requires { ⌜ Accepted (now listing) ⌝ }
+    ensures { λ r. ⌜ outcome r ≡ linesChecked (now (listing .entry)) room ⌝ }
+{
+    if room < LINE_WORDS * listing::head(listing).cells as usize {
+        return refuse(LINES_SHORT, room);
+    }
+    Outcome::Done
+}
+
+// Numbers 8 and 9, for a right listing and a book that has room.
+fn check_book_and_year(listing: &[u32], book: &[u32]) -> Outcome
+    requires { ⌜ Fitted (now listing) (now book) ⌝ }
+    ensures { λ r. ⌜ outcome r ≡ after (bookChecked (now (listing .entry)) (now (book .entry))) (yearChecked (now (listing .entry)) (now (book .entry))) ⌝ }
+{
+    match book::check_book(BOOK, listing, book) {
+        Outcome::Done => check_year(listing, book),
+        Outcome::Refused(why) => Outcome::Refused(why),
+    }
+}
+
+// Numbers 7 to 9: the lines are tested before the book's words.
+fn check_close(listing: &[u32], book: &[u32], room: usize) -> Outcome
+    requires { ⌜ Fitted (now listing) (now book) ⌝ }
+    ensures { λ r. ⌜ outcome r ≡ after (linesChecked (now (listing .entry)) room) (after (bookChecked (now (listing .entry)) (now (book .entry))) (yearChecked (now (listing .entry)) (now (book .entry)))) ⌝ }
+{
+    match check_lines(listing, room) {
+        Outcome::Done => check_book_and_year(listing, book),
+        Outcome::Refused(why) => Outcome::Refused(why),
+    }
+}
+
 // Whether a year can be closed with a lines buffer of `room` words: this writes nothing.
 pub fn may_close(listing: &[u32], book: &[u32], room: usize) -> Outcome
     ensures { λ r. ⌜ outcome r ≡ closeAnswer (now (listing .entry)) (now (book .entry)) room ⌝ }
 {
-    match book::admit(listing, book, LINE_WORDS, room) {
-        Outcome::Done => check_year(listing, book),
+    match book::fits(BOOK, listing, book) {
+        Outcome::Done => check_close(listing, book, room),
         Outcome::Refused(why) => Outcome::Refused(why),
     }
 }
 
 // Closes cell `i`, whose own words are lent: adds the year's mm to its mm to date.
 fn close_cell(entry: &mut [u32], listing: &[u32], h: Head, i: usize, year: u32) -> Loss
-    requires { ⌜ (length (now entry) ≡ entryWords) × (i < cells (now listing)) × Losing (now listing) h (cell (now listing) i) (entryOf (now entry)) year ⌝ }
-    ensures { λ s. ⌜ s ≡ cellLoss (now (listing .entry)) year i (now (entry .entry)) ⌝ }
-    ensures { λ _. ⌜ now (entry .exit) ≡ wordsAfter (now (entry .entry)) (cellLoss (now (listing .entry)) year i (now (entry .entry))) ⌝ }
+    requires { ⌜ Sized (length (now entry)) × (i < cells (now listing)) × Losing (now listing) h (cell (now listing) i) (entryOf (now entry)) year ⌝ }
+    ensures { λ s. ⌜ s ≡ cellLoss (now (listing .entry)) year i (entryOf (now (entry .entry))) ⌝ }
+    ensures { λ _. ⌜ now (entry .exit) ≡ heldWords (length (now (entry .entry))) (grown (entryOf (now (entry .entry))) (cellLoss (now (listing .entry)) year i (entryOf (now (entry .entry))))) ⌝ }
 {
     let e = book::entry_of(&entry[..]);
     let c = listing::cell(listing, i);
-    let s = cell_loss(listing, h, c, e, year);
-    entry[1] = word(11, e.oxidised + s.oxidised);
-    entry[2] = word(12, e.burned + s.burned);
+    let before = book::kg_of(h, c, &entry[..]);
+    let s = cell_loss(listing, h, c, e, before, year);
+    book::put_entry(entry, year::grown(e, s));
     s
 }
 
@@ -81,22 +119,22 @@ fn put_lines(lines: &mut [u32], s: Loss)
     requires { ⌜ (length (now lines) ≡ lineWords) × (s .oxidised ≤ mostNumber) × (s .burned ≤ mostNumber) × (s .kg ≤ mostNumber) ⌝ }
     ensures { λ _. ⌜ now (lines .exit) ≡ linesOf s ⌝ }
 {
-    lines[0] = word(13, s.oxidised);
-    lines[1] = word(14, s.burned);
-    lines[2] = word(15, s.kg);
+    lines[0] = word(OXIDISED_LINE_KIND, s.oxidised);
+    lines[1] = word(BURNED_LINE_KIND, s.burned);
+    lines[2] = word(KG_LINE_KIND, s.kg);
 }
 
 // Closes every cell: its words in the book, and its lines.
 fn close_cells(listing: &[u32], h: Head, book: &mut [u32], lines: &mut [u32], year: u32)
     requires { ⌜ Timely (now listing) h (now book) year × Closable (now listing) (now book) (length (now lines)) ⌝ }
-    ensures { λ _. ⌜ now (book .exit) ≡ filled entryWords (now (book .entry)) bookHead (closedWords (now (listing .entry)) (now (book .entry))) (cells (now (listing .entry))) ⌝ }
+    ensures { λ _. ⌜ now (book .exit) ≡ filled (current .entry) (now (book .entry)) (current .head) (closedWords (now (listing .entry)) (now (book .entry))) (cells (now (listing .entry))) ⌝ }
     ensures { λ _. ⌜ now (lines .exit) ≡ linesAfter (now (listing .entry)) (now (book .entry)) (now (lines .entry)) ⌝ }
 {
     let cells = h.cells as usize;
     let mut i: usize = 0;
     while i < cells {
-        let a = BOOK_HEAD + ENTRY_WORDS * i;
-        let e = a + ENTRY_WORDS;
+        let a = book::entry_at(BOOK, i);
+        let e = a + BOOK.entry;
         let s = close_cell(&mut book[a..e], listing, h, i, year);
         let from = LINE_WORDS * i;
         let to = from + LINE_WORDS;

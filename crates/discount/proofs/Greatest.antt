@@ -1,5 +1,5 @@
--- What the definition `greatest` means: the number passes, and no greater one up to the top does. And these say which number it is. Assumes nothing.
-use mathlib.Core.Path.{_≡_, refl, subst, subst⁻¹}
+-- What the definition `greatest` means: the number passes, and no greater one up to the top does. Assumes nothing.
+use mathlib.Core.Path.{_≡_, refl, subst⁻¹}
 use mathlib.Core.Bool.{Bool, true, false, cond}
 use mathlib.Core.Logic.{⊎-elim}
 use Prim.Native.Nat.{ℕ, zero, suc, _<_, _≤_}
@@ -27,14 +27,3 @@ module _ (passes : ℕ → Bool) where
   unfolding greatest
   greatest-is zero h = record { within = omega arith; itself = h; above = λ m h₁ h₂. absurd (omega arith) }
   greatest-is (suc top) h = counted top (passes (suc top)) refl (greatest-is top h)
-
-  -- there is one such number
-  pub greatest-only : (top n : ℕ) → Greatest passes top n → n ≡ greatest passes top
-  unfolding greatest
-  greatest-only zero n g = let w = g .within in omega arith
-  greatest-only (suc top) n g =
-      ⊎-elim
-      (λ (e : n ≡ suc top). rw (subst (λ (k : ℕ). passes k ≡ true) e (g .itself)) e)
-      (λ (l : n < suc top).
-      rw (g .above (suc top) l (omega arith)) (greatest-only top n (record { within = omega arith; itself = g .itself; above = λ m h₁ h₂. g .above m h₁ (omega arith) })))
-      (eq-or-lt-of-le (g .within))

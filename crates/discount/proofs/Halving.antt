@@ -27,8 +27,9 @@ halved-first {q} {d} h₁ h₂ = record { ends = omega arith; yes = omega arith;
 pub halved-all : {q d low high : ℕ} → Halved q d low high → high ≤ low + 1 → low ≡ roundedDown q d
 halved-all {q} {d} {low} {high} s h =
     let e = s .ends in
+    let yes = s .yes in
     let no = s .no in
-    rounded-down-only q d low
+    rounded-down-only q d low (omega (arith, falls d {m = 0} {n = low} (omega arith)))
     (record { within = omega arith; reaches = s .yes; above = λ m h₁ h₂. omega (arith, falls d {m = high} {n = m} (omega arith)) })
 
 -- ---- the products fit

@@ -1,17 +1,11 @@
--- What the definitions mean, in numbers: the four cases of the discount, and the root without a root. Assumes nothing.
-use mathlib.Core.Path.{_≡_, ap, subst}
+-- What the definitions mean, in numbers: the four cases of the discount, and the theorem `EveryDiscount` of the last. Assumes nothing.
+use mathlib.Core.Path.{_≡_, ap, subst, _∙_}
 use Prim.Native.Nat.{ℕ, _-_, _*_, _<_, _≤_}
-use native.Mathlib.Nat.{mul-le-mul, pos-of-ne-zero}
+use native.Mathlib.Nat.{mul-le-mul, pos-of-ne-zero, le-antisymm, le-of-suc-le-suc, lt-of-not-le}
 use native.Mathlib.Omega.{arith}
 use borrow.Author.Tests.{eq-eqb, ne-eqb, leb-true, leb-false, le-leb, lt-leb}
-use Rattle.discount.specs.Discount.{square, notAbove, roundedDown, factor}
-use Rattle.discount.proofs.Greatest.{greatest-is, greatest-only}
-
--- n is the greatest whole number up to 10,000 for which (10,000 − n) × D is at least 10,000 × √Q
-pub record RoundedDown (Q D n : ℕ) : Type 0 where
-  pub within : n ≤ 10000
-  pub reaches : 100000000 * Q ≤ square ((10000 - n) * D)
-  pub above : (m : ℕ) → n < m → m ≤ 10000 → square ((10000 - m) * D) < 100000000 * Q
+use Rattle.discount.specs.Discount.{square, notAbove, roundedDown, factor, RoundedDown, EveryDiscount}
+use Rattle.discount.proofs.Greatest.{greatest-is}
 
 module _ (Q D : ℕ) where
   pub rounded-down : Q ≤ D * D → RoundedDown Q D (roundedDown Q D)
@@ -22,11 +16,11 @@ module _ (Q D : ℕ) where
       record { within = g .within; reaches = leb-true _ _ (g .itself); above = λ m h₁ h₂. leb-false _ _ (g .above m h₁ h₂) }
 
   -- there is one such number
-  pub rounded-down-only : (n : ℕ) → RoundedDown Q D n → n ≡ roundedDown Q D
-  unfolding notAbove
-  rounded-down-only n r =
-      greatest-only (notAbove Q D) 10000 n
-      (record { within = r .within; itself = le-leb _ _ (r .reaches); above = λ m h₁ h₂. lt-leb _ _ (r .above m h₁ h₂) })
+  no-greater : (n m : ℕ) → RoundedDown Q D n → RoundedDown Q D m → m ≤ n
+  no-greater n m r s = le-of-suc-le-suc (lt-of-not-le (λ (l : n < m). omega (arith, r .above m l (s .within), s .reaches)))
+
+  pub rounded-down-only : (n : ℕ) → Q ≤ D * D → RoundedDown Q D n → n ≡ roundedDown Q D
+  rounded-down-only n h r = le-antisymm (no-greater _ n (rounded-down h) r) (no-greater n _ r (rounded-down h))
 
   -- ---- the four cases, each where those before it do not hold
   pub no-distance : D ≡ 0 → 0 ≡ factor Q D
@@ -49,7 +43,12 @@ module _ (Q D : ℕ) where
   between d h k = rw (ne-eqb D 0 d, lt-leb (400 * Q) (9 * D * D) h, lt-leb (D * D) Q k)
 
   -- so in the last case the discount is that number
-  pub factor-rounded : 9 * D * D < 400 * Q → Q < D * D → RoundedDown Q D (factor Q D)
-  factor-rounded h k =
-      let some : D ≡ 0 → ⊥ = λ e. omega (arith, ap (λ (x : ℕ). x * x) e) in
-      subst (RoundedDown Q D) (between some h k) (rounded-down (omega arith))
+  last : 9 * D * D < 400 * Q → Q < D * D → roundedDown Q D ≡ factor Q D
+  last h k = between (λ e. omega (arith, ap (λ (x : ℕ). x * x) e)) h k
+
+pub every-discount : EveryDiscount
+every-discount =
+    record {
+      rounded = λ Q D h k. subst (RoundedDown Q D) (last Q D h k) (rounded-down Q D (omega arith));
+      only = λ Q D n h k r. rounded-down-only Q D n (omega arith) r ∙ last Q D h k;
+    }

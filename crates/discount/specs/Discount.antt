@@ -1,16 +1,14 @@
 -- Document 01's paragraph "Discount takes four lists", in its own letters Q and D.
-use Prim.Native.Nat.{ℕ, zero, suc, _+_, _-_, _*_, _≤_}
+use Prim.Native.Nat.{ℕ, zero, suc, _+_, _-_, _*_, _<_, _≤_}
 use mathlib.Core.Path.{_≡_}
 use mathlib.Core.Bool.{Bool, true, cond, _&&_}
 use mathlib.Core.List.{List}
 use lib.Dec.{leb, eqb}
 use lib.ListN.{length}
 use Rattle.words.specs.Bits.{within}
-use Rattle.words.specs.Answers.{Answer, accepted, refused, need}
+use Rattle.words.specs.Answers.{Answer, accepted, need}
 use Rattle.words.specs.Refusals.{listLengths, valueTooLarge}
 use Rattle.sums.specs.Sums.{weighted, sum, allAtMost}
-use Rattle.discount.specs.declared.Discounted.{Discounted}
-use Rattle.discount.specs.declared.Discounted.the-variants.{TenThousandths, Refused}
 
 -- Q: "the sum of all squared half-widths", of the first class and of the second
 abbrev pub squares : List ℕ → List ℕ → ℕ
@@ -32,7 +30,7 @@ square x = x * x
 unfoldable pub notAbove : ℕ → ℕ → ℕ → Bool
 notAbove Q D n = leb (100000000 * Q) (square ((10000 - n) * D))
 
--- "10,000 × (1 − √Q / D) rounded down", for a Q below D × D; what this means is proved in proofs/Meaning.antt
+-- "10,000 × (1 − √Q / D) rounded down", for a Q below D × D
 abbrev pub roundedDown : ℕ → ℕ → ℕ
 roundedDown Q D = greatest (notAbove Q D) 10000
 
@@ -43,6 +41,21 @@ factor Q D =
     (cond (leb (400 * Q) (9 * D * D)) 10000
     (cond (leb (D * D) Q) 0
     (roundedDown Q D)))
+
+-- ---- that the last of these cases is this number
+
+-- n is the greatest whole number up to 10,000 for which (10,000 − n) × D is at least 10,000 × √Q, said by the squares
+pub record RoundedDown (Q D n : ℕ) : Type 0 where
+  pub within : n ≤ 10000
+  pub reaches : 100000000 * Q ≤ square ((10000 - n) * D)
+  pub above : (m : ℕ) → n < m → m ≤ 10000 → square ((10000 - m) * D) < 100000000 * Q
+
+-- in the last case the discount is such an n, and the only one; proofs/Meaning.antt proves it
+pub record EveryDiscount : Type 0 where
+  pub rounded : (Q D : ℕ) → 9 * D * D < 400 * Q → Q < D * D → RoundedDown Q D (factor Q D)
+  pub only : (Q D n : ℕ) → 9 * D * D < 400 * Q → Q < D * D → RoundedDown Q D n → n ≡ factor Q D
+
+-- ---- the call
 
 -- refusal 19: "list lengths unequal or not 1–5"
 unfoldable pub lengthsRight : ℕ → ℕ → ℕ → ℕ → Bool
@@ -61,11 +74,6 @@ discount firstWidths secondWidths firstStocks secondStocks =
     (need (valuesRight firstStocks) valueTooLarge 2
     (need (valuesRight secondStocks) valueTooLarge 3
     (accepted (factor (squares firstWidths secondWidths) (distance (sum firstStocks) (sum secondStocks))))))))
-
--- the cases of what the call returns, in document 01's numbers
-abbrev pub discounted : Discounted → Answer
-discounted (TenThousandths n) = accepted n
-discounted (Refused r) = refused (r .number) (r .place)
 
 -- ---- cited by the contracts of private functions alone
 

@@ -1,27 +1,16 @@
 // The discount of two classes, EQ15 and EQ16: from the half-widths and the stocks of their carbon
 // pools to ten-thousandths, in whole numbers throughout.
+use words::Amount;
 use words::LIST_LENGTHS;
-use words::Refusal;
 use words::VALUE_TOO_LARGE;
+use words::refuse_amount;
 ghost use mathlib.Core.Path.{_≡_};
 ghost use Prim.Native.Nat.{_*_, _<_, _≤_};
-ghost use Rattle.words.specs.Answers.{refused};
+ghost use Rattle.words.specs.Answers.{amount};
 ghost use Rattle.sums.specs.Sums.{weighted, sum};
-ghost use Rattle.discount.specs.Discount.{discounted, discount, lengthsRight, squares, distance, factor, roundedDown, Bounded};
+ghost use Rattle.discount.specs.Discount.{discount, lengthsRight, squares, distance, factor, roundedDown, Bounded};
 
 const LARGEST: u32 = 20_000; // of a value, in tenths of t CO2e per ha
-
-// The discount, or why the lists are refused and which.
-pub enum Discounted {
-    TenThousandths(u32),
-    Refused(Refusal),
-}
-
-fn refuse(number: u32, place: usize) -> Discounted
-    ensures { λ r. ⌜ discounted r ≡ refused number place ⌝ }
-{
-    Discounted::Refused(Refusal { number, place })
-}
 
 // Whether four lists of these lengths have one value for each of one to five carbon pools.
 fn lengths_right(a: usize, b: usize, c: usize, d: usize) -> bool
@@ -105,14 +94,15 @@ fn factor_of(
     factor(q, d)
 }
 
-// The discount of two classes: each list has one value for each carbon pool.
+// The discount of two classes in ten-thousandths, or why the lists are refused and which: each list
+// has one value for each carbon pool.
 pub fn discount(
     first_widths: &[u32],
     second_widths: &[u32],
     first_stocks: &[u32],
     second_stocks: &[u32],
-) -> Discounted
-    ensures { λ r. ⌜ discounted r ≡ discount (now («first_widths» .entry)) (now («second_widths» .entry)) (now («first_stocks» .entry)) (now («second_stocks» .entry)) ⌝ }
+) -> Amount
+    ensures { λ r. ⌜ amount r ≡ discount (now («first_widths» .entry)) (now («second_widths» .entry)) (now («first_stocks» .entry)) (now («second_stocks» .entry)) ⌝ }
 {
     if !lengths_right(
         first_widths.len(),
@@ -120,19 +110,19 @@ pub fn discount(
         first_stocks.len(),
         second_stocks.len(),
     ) {
-        return refuse(LIST_LENGTHS, 0);
+        return refuse_amount(LIST_LENGTHS, 0);
     }
     if !sums::all_at_most(LARGEST, first_widths) {
-        return refuse(VALUE_TOO_LARGE, 0);
+        return refuse_amount(VALUE_TOO_LARGE, 0);
     }
     if !sums::all_at_most(LARGEST, second_widths) {
-        return refuse(VALUE_TOO_LARGE, 1);
+        return refuse_amount(VALUE_TOO_LARGE, 1);
     }
     if !sums::all_at_most(LARGEST, first_stocks) {
-        return refuse(VALUE_TOO_LARGE, 2);
+        return refuse_amount(VALUE_TOO_LARGE, 2);
     }
     if !sums::all_at_most(LARGEST, second_stocks) {
-        return refuse(VALUE_TOO_LARGE, 3);
+        return refuse_amount(VALUE_TOO_LARGE, 3);
     }
-    Discounted::TenThousandths(factor_of(first_widths, second_widths, first_stocks, second_stocks))
+    Amount::Value(factor_of(first_widths, second_widths, first_stocks, second_stocks))
 }

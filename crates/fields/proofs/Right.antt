@@ -7,10 +7,19 @@ use native.Mathlib.Omega.{arith}
 use lib.Dec.{eqb, ltb}
 use borrow.Author.Tests.{ltb-true, eqb-true}
 use Rattle.words.specs.Bits.{within}
+use Rattle.words.proofs.Fields.{field-most}
 use Rattle.words.proofs.Answers.{and-left, and-right, within-least, within-most}
 use Rattle.fields.specs.Fields.{cellsOf, strataOf, horizonOf, bufferOf, warmingOf, methaneOf, stratumOf, conversionOf, enteredOf, areaOf, densityOf, termOf, yearOf, headOf, rowOf, cellOf}
 use Rattle.fields.specs.Words.{mostCells, mostStrata, mostHorizon, isSizeWord, isFigureWord, isDepthWord, isAreaWord, isTermWord, isAbove}
-use Rattle.fields.specs.Right.{HeadRight, RowRight, CellRight, Listed, TermRight}
+use Rattle.fields.specs.Right.{SizesWithin, HeadRight, RowRight, CellRight, Listed, TermRight}
+
+pub sizes-within : (w v : ℕ) → isSizeWord w ≡ true → SizesWithin (headOf w v)
+unfolding isSizeWord headOf
+sizes-within w v p =
+    let cells : within 1 mostCells (cellsOf w) ≡ true = search (and-left, and-right) in
+    let strata : within 1 mostStrata (strataOf w) ≡ true = search (and-left, and-right) in
+    let horizon : within 1 mostHorizon (horizonOf w) ≡ true = search (and-left, and-right) in
+    record { cells = within-most _ _ _ cells; strata = within-most _ _ _ strata; horizon = within-most _ _ _ horizon }
 
 pub head-right : (w v : ℕ) → isSizeWord w ≡ true → isFigureWord v ≡ true → HeadRight (headOf w v)
 unfolding isSizeWord isFigureWord headOf
@@ -33,7 +42,7 @@ head-right w v p q =
 -- every word of a table is right, by the width of its fields
 pub row-right : (w : ℕ) → RowRight (rowOf w)
 unfolding rowOf
-row-right w = record { drainage = omega arith; oxidation = omega arith; burning = omega arith }
+row-right w = record { drainage = field-most w 20 8; oxidation = field-most w 10 10; burning = field-most w 0 10 }
 
 pub cell-right : (strata horizon w v : ℕ) → isDepthWord strata horizon w ≡ true → isAreaWord v ≡ true → CellRight strata horizon (cellOf w v)
 unfolding isDepthWord isAreaWord cellOf

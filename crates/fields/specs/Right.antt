@@ -8,6 +8,12 @@ use Rattle.fields.specs.declared.Head.{Head}
 use Rattle.fields.specs.declared.Row.{Row}
 use Rattle.fields.specs.declared.Cell.{Cell}
 
+-- the sizes of word 0 are within their limits
+pub record SizesWithin (h : Head) : Type 0 where
+  pub cells : h .cells ≤ mostCells
+  pub strata : h .strata ≤ mostStrata
+  pub horizon : h .horizon ≤ mostHorizon
+
 -- the figures of words 0 and 1
 pub record HeadRight (h : Head) : Type 0 where
   pub cells : (1 ≤ h .cells) × (h .cells ≤ mostCells)

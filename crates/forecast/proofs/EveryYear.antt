@@ -1,66 +1,108 @@
--- Every year of an opened book closes. Assumes nothing.
-use mathlib.Core.Path.{_≡_, sym, ap, _∙_}
+-- Every year of a forecast is an accepted closing. Assumes nothing.
+use mathlib.Core.Path.{_≡_, refl, sym, ap, _∙_}
 use mathlib.Core.Bool.{true}
-use mathlib.Core.List.{List}
-use Prim.Native.Nat.{ℕ, zero, suc, _*_, _≤_, _<_}
-use native.Mathlib.Nat.{le-refl}
+use mathlib.Core.List.{List, [], _∷_}
+use Prim.Native.Nat.{ℕ, zero-le, _+_, _*_, _≤_, _<_}
 use native.Mathlib.Omega.{arith}
-use lib.ListN.{length}
+use lib.ListN.{length, getD}
 use borrow.Author.Tests.{leb-true}
 use Rattle.words.specs.Answers.{Answer, outcome}
 use Rattle.words.specs.declared.Outcome.{Outcome}
 use Rattle.words.specs.declared.Outcome.the-variants.{Done}
 use Rattle.words.proofs.Answers.{need-says, after-says}
+use Rattle.words.specs.Left.{written}
+use Rattle.words.proofs.Blocks.{filled-word, filled-behind}
+use Rattle.words.proofs.Left.{written-new}
+use Rattle.words.proofs.Signed.{by-test}
+use Rattle.words.proofs.Sums.{sum-same}
 use Rattle.listing.specs.Layout.{cells, horizon}
-use Rattle.year.specs.declared.Entry.{Entry}
-use Rattle.book.specs.Layout.{lineWords, year}
-use Rattle.book.specs.Check.{admittedOnly}
-use Rattle.book.proofs.Sound.{fitted-says}
-use Rattle.closing.specs.Closable.{Closable}
+use Rattle.book.specs.Current.{current, fitted}
+use Rattle.book.specs.Layout.{lineWords}
+use Rattle.book.proofs.Sound.{shaped, fitted-says}
+use Rattle.opening.specs.Opening.{openBook}
+use Rattle.closing.specs.Closing.{bookAfter, closeAnswer}
 use Rattle.closing.proofs.Closable.{closable-before, closes}
-use Rattle.ledger.specs.Calls.{written, closing}
-use Rattle.history.proofs.Says.{Says}
-use Rattle.history.proofs.NextYear.{year-says}
-use Rattle.history.proofs.After.{opened-says, closed-line}
-use Rattle.history.proofs.Totals.{over-same}
-use Rattle.forecast.specs.Forecast.{closedFor, yearKg, outputChecked, forecastAnswer}
-use Rattle.forecast.specs.CellYears.{Ready}
+use Rattle.years.specs.Years.{closedFor}
+use Rattle.years.proofs.Held.{every-years}
+use Rattle.ledger.specs.Calls.{opening, closing}
+use Rattle.ledger.proofs.After.{closed-line}
+use Rattle.forecast.specs.Forecast.{yearKg, closedBook, outputAfter, outputChecked, forecastAnswer, forecasting}
+use Rattle.forecast.specs.Running.{Ready}
 use Rattle.forecast.specs.Closings.{Closes, EveryYear}
 
--- ---- the years of a new book
+-- ---- the years of an opened book
 
-module _ {l b : List ℕ} {n : ℕ} {entries : ℕ → Entry} (new : Says l b 0 n entries) where
-  -- after t closings it is accepted, and in year t
-  after-years : (t : ℕ) → t ≤ horizon l → (admittedOnly l (closedFor l b t) .done ≡ true) × (year (closedFor l b t) ≡ t)
-  unfolding closedFor
-  after-years zero le = (new .admits, new .year-is)
-  after-years (suc t) le =
-      let h = after-years t (omega arith) in
-      let then = year-says l (closedFor l b t) (lineWords * cells l) (closable-before l (closedFor l b t) (lineWords * cells l) (le-refl _) (omega (arith, h .1)) (h .0)) in
-      (then .admits, omega (arith, then .year-is, h .1))
+module _ (l b : List ℕ) (fits : fitted l b .done ≡ true) where
+  abbrev after : ℕ → List ℕ
+  after = closedFor l (openBook l b)
 
-  year-closable : (size : ℕ) → lineWords * cells l ≤ size → (t : ℕ) → t < horizon l → Closable l (closedFor l b t) size
-  year-closable size room t lt = let h = after-years t (omega arith) in closable-before l (closedFor l b t) size room (omega (arith, h .1)) (h .0)
+  year-done : (y : List ℕ) → lineWords * cells l ≤ length y → (t : ℕ) → t < horizon l → closing l (after t) y .answer .done ≡ true
+  unfolding closing
+  year-done y room t lt =
+      let held = every-years l b fits t (omega arith) .says in
+      closes l (after t) (length y) (closable-before l (after t) (length y) room (omega (arith, held .year-is)) (held .admits))
 
-  year-closes : (x : List ℕ) → lineWords * cells l ≤ length x → (t : ℕ) → t < horizon l → Closes l b t x
-  unfolding closing closedFor yearKg written
-  year-closes x room t lt =
-      let done = closes l (closedFor l b t) (length x) (year-closable (length x) room t lt) in
+  -- x is an output whose numbers are the years' kg
+  year-closes : (x : List ℕ) → ((t : ℕ) → t < horizon l → getD x t 0 ≡ yearKg l (after t)) → (y : List ℕ) → lineWords * cells l ≤ length y → (t : ℕ) → t < horizon l → Closes l (openBook l b) x t y
+  unfolding closing closedFor yearKg
+  year-closes x number y room t lt =
+      let done = year-done y room t lt in
       record {
         done = done;
-        book = rw done;
-        kg = over-same _ _ (cells l) (λ i h. closed-line l (closedFor l b t) x done i h .2);
+        book = written-new (closeAnswer l (after t) (length y)) (after t) (bookAfter l (after t)) done;
+        kg = number t lt ∙ sum-same _ _ (cells l) (λ i h. sym (closed-line l (after t) y done i h .2));
       }
 
--- ---- what is claimed of the forecast's years
+-- the number of year t + 1
+output-number : (l b x : List ℕ) (t : ℕ) → t < horizon l → getD (outputAfter l b x) t 0 ≡ yearKg l (closedFor l b t)
+unfolding outputAfter
+output-number l b x t lt =
+    let e : 0 + 1 * t + 0 ≡ t = omega arith in
+    rw e at (filled-word 1 x 0 (λ t. yearKg l (closedFor l b t) ∷ []) (λ t. refl) zero-le (horizon l) t 0 lt (omega arith))
+
+-- what open leaves where it is accepted, and what the forecast does
+opened-book : (l b : List ℕ) → fitted l b .done ≡ true → opening l b .book ≡ openBook l b
+unfolding opening
+opened-book l b fits = written-new (fitted l b) b (openBook l b) fits
+
+module _ (l b x : List ℕ) (h : forecasting l b x .answer .done ≡ true) where
+  forecast-book : forecasting l b x .book ≡ closedFor l (openBook l b) (horizon l)
+  unfolding forecasting closedBook
+  forecast-book = written-new (forecastAnswer l b (length x)) b (closedFor l (openBook l b) (horizon l)) h
+
+  forecast-output : forecasting l b x .output ≡ outputAfter l (openBook l b) x
+  unfolding forecasting
+  forecast-output = written-new (forecastAnswer l b (length x)) x (outputAfter l (openBook l b) x) h
 
 pub every-year : EveryYear
-every-year l b x h room t lt = year-closes (opened-says l b h) x room t lt
+unfolding forecasting forecastAnswer opening
+every-year l b x h =
+    let fits = after-says _ _ h .0 in
+    let same = opened-book l b fits in
+    record {
+      opens = fits;
+      closes = rw (same, forecast-output l b x h) (year-closes l b fits _ (output-number l (openBook l b) x));
+      book-is = rw same (forecast-book l b x h);
+    }
+
+-- beyond the horizon the output is as it was
+pub output-beyond : (l b x : List ℕ) (k : ℕ) → horizon l ≤ k → getD (forecasting l b x .output) k 0 ≡ getD x k 0
+unfolding forecasting outputAfter written
+output-beyond l b x k le =
+    by-test (λ (y : List ℕ). getD y k 0 ≡ getD x k 0) (forecastAnswer l b (length x) .done) _ x
+    (λ done. filled-behind 1 x 0 _ (λ t. refl) zero-le (horizon l) k (omega arith))
+    (λ refused. refl)
 
 -- ---- a forecast whose tests answered `Done`: what its years are given
 
-pub ready : (l b : List ℕ) (room : ℕ) (v : Outcome) → outcome v ≡ forecastAnswer l b room → v ≡ Done → Ready l b room
-unfolding forecastAnswer outputChecked
-ready l b room v e d =
-    let passed = after-says _ _ (ap (λ (a : Answer). a .done) (sym e ∙ ap outcome d)) in
-    record { fitted = fitted-says l b (passed .0); enough = leb-true _ _ (need-says _ _ _ _ (passed .1) .0) }
+module _ (l b : List ℕ) (room : ℕ) (v : Outcome) (e : outcome v ≡ forecastAnswer l b room) (d : v ≡ Done) where
+  passed : (fitted l b .done ≡ true) × (outputChecked l room .done ≡ true)
+  unfolding forecastAnswer
+  passed = after-says _ _ (ap (λ (a : Answer). a .done) (sym e ∙ ap outcome d))
+
+  pub forecast-fits : fitted l b .done ≡ true
+  forecast-fits = passed .0
+
+  pub ready : Ready l b room
+  unfolding outputChecked
+  ready = record { fitted = fitted-says current l b shaped (passed .0); enough = leb-true _ _ (need-says _ _ _ _ (passed .1) .0) }

@@ -1,4 +1,4 @@
 -- Laws of the forecast: that every year closes, that the closings come to each cell's own years, and its loops.
 pub mod EveryYear
-pub mod CellYears
+pub mod Running
 pub mod Turn

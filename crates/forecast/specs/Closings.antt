@@ -4,22 +4,28 @@ use mathlib.Core.Path.{_≡_}
 use mathlib.Core.Bool.{true}
 use Prim.Native.Nat.{ℕ, suc, _*_, _≤_, _<_}
 use mathlib.Core.List.{List}
-use lib.ListN.{length}
+use lib.ListN.{length, getD}
+use Rattle.words.specs.Sums.{sumBelow}
 use Rattle.listing.specs.Layout.{cells, horizon}
 use Rattle.book.specs.Layout.{lineWords, kgLine}
-use Rattle.balance.specs.Balance.{overCells}
+use Rattle.years.specs.Years.{closedFor}
 use Rattle.ledger.specs.Calls.{opening, closing}
-use Rattle.forecast.specs.Forecast.{closedFor, yearKg}
+use Rattle.forecast.specs.Forecast.{forecasting}
 
--- the closing of year t + 1 of book b, with a lines buffer x: it is accepted, leaves the book of the year after, and its kg lines add up to
--- the year's number
-pub record Closes (l b : List ℕ) (t : ℕ) (x : List ℕ) : Type 0 where
-  pub done : closing l (closedFor l b t) x .answer .done ≡ true
-  pub book : closing l (closedFor l b t) x .book ≡ closedFor l b (suc t)
-  pub kg : overCells (kgLine (closing l (closedFor l b t) x .lines)) (cells l) ≡ yearKg l (closedFor l b t)
+-- the closing of year t + 1, with a lines buffer y, of the book b that open wrote: it is accepted, leaves the book of the year after, and its
+-- kg lines add up to the year's number in the output x
+pub record Closes (l b x : List ℕ) (t : ℕ) (y : List ℕ) : Type 0 where
+  pub done : closing l (closedFor l b t) y .answer .done ≡ true
+  pub book : closing l (closedFor l b t) y .book ≡ closedFor l b (suc t)
+  pub kg : getD x t 0 ≡ sumBelow (kgLine (closing l (closedFor l b t) y .output)) (cells l)
 
--- every year of a book that an accepted open wrote closes so; proofs/EveryYear.antt proves it
+-- an accepted forecast with scratch book b and output x: open accepts the book, every year of it closes so, and the book that is left is the
+-- one after the last year
+pub record ClosedYears (l b x : List ℕ) : Type 0 where
+  pub opens : opening l b .answer .done ≡ true
+  pub closes : (y : List ℕ) → lineWords * cells l ≤ length y → (t : ℕ) → t < horizon l → Closes l (opening l b .book) (forecasting l b x .output) t y
+  pub book-is : forecasting l b x .book ≡ closedFor l (opening l b .book) (horizon l)
+
+-- for every listing, scratch book and output; proofs/EveryYear.antt proves it
 abbrev pub EveryYear : Type 0
-EveryYear =
-    (l b x : List ℕ) → opening l b .answer .done ≡ true → lineWords * cells l ≤ length x →
-    (t : ℕ) → t < horizon l → Closes l (opening l b .book) t x
+EveryYear = (l b x : List ℕ) → forecasting l b x .answer .done ≡ true → ClosedYears l b x

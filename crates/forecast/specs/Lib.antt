@@ -1,4 +1,4 @@
 -- What the contract of the forecast cites; last, that it is what open and close hand out.
 pub mod Forecast
-pub mod CellYears
+pub mod Running
 pub mod Closings

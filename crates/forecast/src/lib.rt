@@ -6,12 +6,14 @@ ghost use Prim.Native.Nat.{_≤_};
 ghost use lib.ListN.{length};
 ghost use Rattle.words.specs.Answers.{outcome};
 ghost use Rattle.words.specs.Blocks.{filled};
+ghost use Rattle.words.specs.Left.{leaves};
 ghost use Rattle.listing.specs.Layout.{head, cells, horizon};
 ghost use Rattle.listing.specs.Accepted.{Accepted};
-ghost use Rattle.forecast.specs.Forecast.{outputChecked, forecastAnswer, leavesOutput, forecasting};
-ghost use Rattle.forecast.specs.CellYears.{restingYears, entryAfter, ranCells, ranBook, addedYears, ranOutput, Running, Ready};
-use book::BOOK_HEAD;
-use book::ENTRY_WORDS;
+ghost use Rattle.book.specs.Current.{newBook};
+ghost use Rattle.years.specs.Years.{entriesAfter};
+ghost use Rattle.forecast.specs.Forecast.{outputChecked, forecastAnswer, forecasting};
+ghost use Rattle.forecast.specs.Running.{restingYears, ranCells, addedYears, ranOutput, Running, Ready};
+use book::BOOK;
 use fields::Head;
 use words::OUTPUT_SHORT;
 use words::Outcome;
@@ -33,7 +35,7 @@ fn check_output(listing: &[u32], room: usize) -> Outcome
 fn may_forecast(listing: &[u32], book: &[u32], room: usize) -> Outcome
     ensures { λ r. ⌜ outcome r ≡ forecastAnswer (now (listing .entry)) (now (book .entry)) room ⌝ }
 {
-    match book::fits(listing, book) {
+    match book::fits(BOOK, listing, book) {
         Outcome::Done => check_output(listing, room),
         Outcome::Refused(why) => Outcome::Refused(why),
     }
@@ -50,36 +52,22 @@ fn resting_years(plan: u32, horizon: u32) -> u32
 }
 
 // One cell's years: adds its kg of each year to the year's number, and answers its entry after the
-// last. A year's kg is the kg to date after it less the kg to date that was carried along.
+// last. Its kg to date goes along, so that a year works it out once.
 fn run_cell(listing: &[u32], h: Head, i: usize, output: &mut [u64]) -> Entry
     requires { ⌜ Running (now listing) h i (now output) ⌝ }
-    ensures { λ e. ⌜ e ≡ entryAfter (now (listing .entry)) i (horizon (now (listing .entry))) ⌝ }
+    ensures { λ e. ⌜ e ≡ entriesAfter (now (listing .entry)) (horizon (now (listing .entry))) i ⌝ }
     ensures { λ _. ⌜ now (output .exit) ≡ addedYears (now (listing .entry)) i (now (output .entry)) ⌝ }
 {
     let c = listing::cell(listing, i);
-    let mut e = Entry {
-        withdrawn: false,
-        plan: c.conversion,
-        oxidised: 0,
-        burned: 0,
-    };
+    let mut e = year::opened(c.conversion);
     let mut kg: u32 = 0;
     let horizon = h.horizon;
     let mut year = resting_years(c.conversion, horizon);
     while year < horizon {
-        let s = closing::cell_loss(listing, h, c, e, year + 1);
-        let oxidised = e.oxidised + s.oxidised;
-        let burned = e.burned + s.burned;
-        let then = year::emission(h, c, oxidised, burned);
-        output[year as usize] += (then - kg) as u64;
-        let grown = Entry {
-            withdrawn: e.withdrawn,
-            plan: e.plan,
-            oxidised,
-            burned,
-        };
-        e = grown;
-        kg = then;
+        let s = closing::cell_loss(listing, h, c, e, kg, year + 1);
+        output[year as usize] += s.kg as u64;
+        e = year::grown(e, s);
+        kg += s.kg;
         year += 1;
     }
     e
@@ -88,16 +76,16 @@ fn run_cell(listing: &[u32], h: Head, i: usize, output: &mut [u64]) -> Entry
 // Every cell's years, on an output that begins with zeros: each cell's words, and the years' numbers.
 fn run_cells(listing: &[u32], h: Head, book: &mut [u32], output: &mut [u64])
     requires { ⌜ Ready (now listing) (now book) (length (now output)) × (h ≡ head (now listing)) × (now output ≡ ranOutput (now listing) (now output) 0) ⌝ }
-    ensures { λ _. ⌜ now (book .exit) ≡ ranCells (now (listing .entry)) (now (book .entry)) (horizon (now (listing .entry))) (cells (now (listing .entry))) ⌝ }
+    ensures { λ _. ⌜ now (book .exit) ≡ ranCells (now (listing .entry)) (now (book .entry)) (cells (now (listing .entry))) ⌝ }
     ensures { λ _. ⌜ now (output .exit) ≡ ranOutput (now (listing .entry)) (now (output .entry)) (cells (now (listing .entry))) ⌝ }
 {
     let cells = h.cells as usize;
     let mut i: usize = 0;
     while i < cells {
-        let a = BOOK_HEAD + ENTRY_WORDS * i;
-        let e = a + ENTRY_WORDS;
+        let a = book::entry_at(BOOK, i);
+        let e = a + BOOK.entry;
         let held = run_cell(listing, h, i, output);
-        opening::put_cell(&mut book[a..e], held);
+        book::put_entry(&mut book[a..e], held);
         i += 1;
     }
 }
@@ -117,20 +105,20 @@ fn clear(output: &mut [u64], n: usize)
 // Writes the scratch book as it is after every year, and each year's kg.
 fn run_years(listing: &[u32], book: &mut [u32], output: &mut [u64])
     requires { ⌜ Ready (now listing) (now book) (length (now output)) ⌝ }
-    ensures { λ _. ⌜ now (book .exit) ≡ ranBook (now (listing .entry)) (now (book .entry)) (horizon (now (listing .entry))) ⌝ }
+    ensures { λ _. ⌜ now (book .exit) ≡ newBook (now (listing .entry)) (now (book .entry)) (horizon (now (listing .entry))) 0 (entriesAfter (now (listing .entry)) (horizon (now (listing .entry)))) ⌝ }
     ensures { λ _. ⌜ now (output .exit) ≡ ranOutput (now (listing .entry)) (now (output .entry)) (cells (now (listing .entry))) ⌝ }
 {
     let h = listing::head(listing);
     clear(output, h.horizon as usize);
     run_cells(listing, h, book, output);
     book::put_year(book, h.horizon);
-    book::put_issued(book, 0);
+    book::put_issued(BOOK, book, 0);
 }
 
 // Opens the scratch book, closes every year on it, and writes each year's kg over all cells. What
 // the scratch book held is not tested.
 pub fn forecast(listing: &[u32], book: &mut [u32], output: &mut [u64]) -> Outcome
-    ensures { λ r. ⌜ leavesOutput (outcome r) (now (book .exit)) (now (output .exit)) ≡ forecasting (now (listing .entry)) (now (book .entry)) (now (output .entry)) ⌝ }
+    ensures { λ r. ⌜ leaves (outcome r) (now (book .exit)) (now (output .exit)) ≡ forecasting (now (listing .entry)) (now (book .entry)) (now (output .entry)) ⌝ }
 {
     let v = may_forecast(listing, &book[..], output.len());
     match v {

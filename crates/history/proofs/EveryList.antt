@@ -1,20 +1,21 @@
 -- THE THEOREM of specs/History.antt: every list of calls keeps the claims. Assumes nothing.
-use mathlib.Core.Path.{_≡_, refl}
+use mathlib.Core.Path.{_≡_, refl, sym}
 use mathlib.Core.Bool.{true}
 use mathlib.Core.List.{List, [], _∷_}
 use Prim.Native.Nat.{ℕ}
 use native.Mathlib.Omega.{arith}
-use Rattle.year.specs.Year.{emission}
-use Rattle.book.specs.Check.{admittedOnly}
-use Rattle.ledger.specs.Calls.{opening, accountOf, stating}
+use Rattle.listing.specs.Layout.{head, cell}
+use Rattle.year.proofs.Laws.{emission-none}
+use Rattle.book.specs.Current.{current, admitted}
+use Rattle.ledger.specs.Calls.{opening, accountOf, stating, Call}
 use Rattle.ledger.proofs.Reached.{reaches}
-use Rattle.history.specs.History.{Call, State, next, run, Start, fresh, yearIn, planIn, sumOf, issuedIn, highest, EachClosing, Kept, EveryList, Brings, EveryListFrom}
-use Rattle.history.proofs.After.{opened-says}
-use Rattle.book.proofs.Sound.{sound}
+use Rattle.ledger.proofs.After.{opened-says}
+use Rattle.history.specs.History.{State, next, run, Start, fresh, yearIn, planIn, sumOf, issuedIn, highest, EachClosing, Kept, EveryList, Brings, EveryListFrom}
+use Rattle.book.proofs.Sound.{shaped, sound}
 use Rattle.history.proofs.Invariant.{Inv, kept-step}
 
 -- before the first call
-kept-start : (l b : List ℕ) (s : Start) → admittedOnly l b .done ≡ true → Brings l b s → Inv l s b []
+kept-start : (l b : List ℕ) (s : Start) → admitted l b .done ≡ true → Brings l b s → Inv l s b []
 unfolding yearIn planIn sumOf issuedIn highest EachClosing
 kept-start l b s admits brings =
     record {
@@ -44,7 +45,7 @@ claims l s now v =
           let told = reaches l (now .book) i (v .admits) p in
           record {
             told = told;
-            depth = rw told (omega (arith, v .oxidised-is i p, v .burned-is i p, sound l (now .book) 0 0 (v .admits) .entry-right i p .lost));
+            depth = rw told (omega (arith, v .oxidised-is i p, v .burned-is i p, sound current l (now .book) shaped (v .admits) .entry-right i p .lost));
             kilos = v .kilos i p;
             dry = v .dry i p;
           };
@@ -56,7 +57,6 @@ every-list-from l b s admits brings calls = claims l s _ (kept-run l s (record {
 
 -- an opened book brings nothing, and the listing's plan years
 pub every-list : EveryList
-unfolding emission
 every-list l b done =
     let says = opened-says l b done in
     every-list-from l (opening l b .book) (fresh l) (says .admits)
@@ -66,5 +66,5 @@ every-list l b done =
       plan-is = λ i p. rw (says .entry-is i p);
       oxidised-is = λ i p. rw (says .entry-is i p);
       burned-is = λ i p. rw (says .entry-is i p);
-      kg-is = λ i p. omega arith;
+      kg-is = λ i p. sym (emission-none (head l) (cell l i));
     })

@@ -2,7 +2,7 @@
 use mathlib.Core.Path.{_≡_, refl, ap, _∙_}
 use mathlib.Core.Bool.{Bool, true, false, cond}
 use mathlib.Core.List.{List, _∷_}
-use Prim.Native.Nat.{ℕ, suc, _+_, _≤_, _<_}
+use Prim.Native.Nat.{ℕ, _+_, _≤_, _<_}
 use native.Mathlib.Omega.{arith}
 use native.Mathlib.Numerals.{add-one}
 use lib.Dec.{eqb}
@@ -11,24 +11,23 @@ use Rattle.words.proofs.Signed.{by-test}
 use Rattle.listing.specs.Layout.{head, cells, row, cell}
 use Rattle.year.specs.declared.Entry.{Entry}
 use Rattle.year.specs.Year.{emission}
-use Rattle.book.specs.Layout.{year, issued, entry}
-use Rattle.book.specs.Check.{admittedOnly}
-use Rattle.balance.specs.Balance.{kgTo, balanceIn}
-use Rattle.balance.proofs.Bounds.{issue-max}
-use Rattle.closing.specs.Closing.{loss}
-use Rattle.ledger.specs.Calls.{closing, replanning, withdrawing, issuing}
-use Rattle.history.specs.History.{Call, Close, Replan, Withdraw, Issue, step, Event, Lines, Planned, Paid, Nothing, event, History, Start, yearIn, planIn, sumOf, oxidisedIn, burnedIn, kgIn, issuedIn, balanceAt, highest, EachClosing, dOf, StayedDry}
-use Rattle.history.proofs.Says.{Says, planned, marked}
-use Rattle.history.proofs.After.{closed-says, closed-line, closed-not, replanned-says, replanned-not, withdrawn-says, withdrawn-not, issued-says, issued-value, issued-not}
+use Rattle.year.specs.Year.{planned, marked}
 use Rattle.year.proofs.Laws.{year-kg, year-dry}
-use Rattle.history.proofs.Totals.{balance-same}
+use Rattle.book.specs.Current.{issued, entry, kgTo, admitted, Says}
+use Rattle.book.specs.Layout.{year}
+use Rattle.balance.specs.Balance.{balanceIn}
+use Rattle.balance.proofs.Bounds.{balance-same, issue-max}
+use Rattle.closing.specs.Closing.{loss}
+use Rattle.ledger.specs.Calls.{closing, replanning, withdrawing, issuing, Call, Close, Replan, Withdraw, Issue, calling}
+use Rattle.ledger.proofs.After.{closed-says, closed-line, replanned-says, withdrawn-says, issued-says, issued-value, call-refused}
+use Rattle.history.specs.History.{step, Event, Lines, Planned, Paid, Nothing, History, Start, yearIn, planIn, sumOf, oxidisedIn, burnedIn, kgIn, issuedIn, balanceAt, highest, EachClosing, dOf, StayedDry}
 
 -- the book b is admitted and says what the history h says, and the claims hold of h. A record type with no name: at an event that
 -- changes nothing it computes to itself, and the old proof is the new one
 abbrev pub Inv : List ℕ → Start → List ℕ → History → Type 0
 Inv l s b h =
     record {
-      admits : admittedOnly l b .done ≡ true;
+      admits : admitted l b .done ≡ true;
       year-is : year b ≡ yearIn s h;
       issued-is : issued b ≡ issuedIn s h;
       plan-is : (i : ℕ) → i < cells l → entry b i .plan ≡ planIn s h i;
@@ -58,13 +57,13 @@ module _ (l : List ℕ) (s : Start) (b : List ℕ) (h : History) (v : Inv l s b 
     closed-kilos i p =
         rw (v .kilos i p, ← (v .oxidised-is i p), ← (v .burned-is i p)) (year-kg (head l) (row l) (cell l i) (entry b i) (year b + 1))
 
-    closed-dry : (i : ℕ) → i < cells l → 0 < loss l b i .burned → head l .guard + loss l b i .burned ≤ dOf l i (planIn s h i) (suc (yearIn s h))
+    closed-dry : (i : ℕ) → i < cells l → 0 < loss l b i .burned → head l .guard + loss l b i .burned ≤ dOf l s h i
     unfolding dOf
     closed-dry i p lt =
         let d = year-dry (head l) (row l) (cell l i) (entry b i) (year b + 1) lt in
         rw (← (v .year-is), ← (v .plan-is i p), ← (add-one (year b)), d .0) (d .1)
 
-    kept-close : Inv l s (closing l b x .book) (Lines (closing l b x .lines) ∷ h)
+    kept-close : Inv l s (closing l b x .book) (Lines (closing l b x .output) ∷ h)
     unfolding yearIn planIn sumOf issuedIn highest EachClosing
     kept-close =
         let says = closed-says l b x done in
@@ -141,13 +140,13 @@ module _ (l : List ℕ) (s : Start) (b : List ℕ) (h : History) (v : Inv l s b 
         top = omega (arith, issued-value l b done, ap atLeast0 balance-is, v .top, v .issued-is, issue-max (balanceIn l b) (issued b));
       }
 
-  -- ---- every call, accepted or refused
-  pub kept-step : (c : Call) → Inv l s (step l b c .book) (event c (step l b c) ∷ h)
-  kept-step (Close x) =
-      by-test (λ (e : Event). Inv l s (closing l b x .book) (e ∷ h)) (closing l b x .answer .done) (Lines (closing l b x .lines)) Nothing (kept-close x) (λ refused. kept-nothing _ (closed-not l b x refused))
-  kept-step (Replan i y) =
-      by-test (λ (e : Event). Inv l s (replanning l b i y .book) (e ∷ h)) (replanning l b i y .answer .done) (Planned i y) Nothing (kept-replan i y) (λ refused. kept-nothing _ (replanned-not l b i y refused))
-  kept-step (Withdraw i) =
-      by-test (λ (e : Event). Inv l s (withdrawing l b i .book) (Nothing ∷ h)) (withdrawing l b i .answer .done) Nothing Nothing (kept-withdraw i) (λ refused. kept-nothing _ (withdrawn-not l b i refused))
-  kept-step Issue =
-      by-test (λ (e : Event). Inv l s (issuing l b .book) (e ∷ h)) (issuing l b .answer .done) (Paid (issuing l b .answer .value)) Nothing kept-issue (λ refused. kept-nothing _ (issued-not l b refused))
+  -- ---- every call, accepted or refused: what an accepted one hands out, e, is kept
+  either : (c : Call) (e : Event) → (calling l b c .answer .done ≡ true → Inv l s (calling l b c .book) (e ∷ h)) → Inv l s (calling l b c .book) (cond (calling l b c .answer .done) e Nothing ∷ h)
+  either c e kept =
+      by-test (λ (e : Event). Inv l s (calling l b c .book) (e ∷ h)) (calling l b c .answer .done) e Nothing kept (λ refused. kept-nothing _ (call-refused l b c refused))
+
+  pub kept-step : (c : Call) → Inv l s (step l b c .book) (step l b c .event ∷ h)
+  kept-step (Close x) = either (Close x) (Lines (closing l b x .output)) (kept-close x)
+  kept-step (Replan i y) = either (Replan i y) (Planned i y) (kept-replan i y)
+  kept-step (Withdraw i) = either (Withdraw i) Nothing (kept-withdraw i)
+  kept-step Issue = either Issue (Paid (issuing l b .answer .value)) kept-issue

@@ -7,31 +7,15 @@ use Prim.Native.Nat.{ℕ, suc, _+_, _≤_, _<_, max}
 use lib.Dec.{eqb}
 use lib.IntN.{ℤ}
 use Rattle.words.specs.Bits.{atLeast0}
+use Rattle.words.specs.Left.{Left}
 use Rattle.listing.specs.Layout.{head, cells, guard, row, cell}
 use Rattle.year.specs.Year.{unconverted, age, drained, emission}
-use Rattle.book.specs.Layout.{year, issued, entry, oxidisedLine, burnedLine, kgLine}
-use Rattle.book.specs.Check.{admittedOnly}
+use Rattle.book.specs.Current.{issued, entry, admitted}
+use Rattle.book.specs.Layout.{year, oxidisedLine, burnedLine, kgLine}
 use Rattle.balance.specs.Balance.{balance}
-use Rattle.ledger.specs.Calls.{Left, LeftLines, leavesLines, opening, closing, replanning, withdrawing, issuing, stating}
+use Rattle.ledger.specs.Calls.{opening, closing, replanning, withdrawing, issuing, stating, Call, Close, Replan, Withdraw, Issue}
 
 -- ---- a list of calls
-
--- a call with whatever arguments the caller gives: any lines buffer, any cell, any year
-pub data Call : Type 0 where
-  Close : List ℕ → Call
-  Replan : ℕ → ℕ → Call
-  Withdraw : ℕ → Call
-  Issue : Call
-
--- what it answers and leaves, by the definitions that the contracts cite; only a closing has lines
-abbrev pub noLines : Left → LeftLines
-noLines m = leavesLines (m .answer) (m .book) []
-
-abbrev pub step : List ℕ → List ℕ → Call → LeftLines
-step l b (Close x) = closing l b x
-step l b (Replan i y) = noLines (replanning l b i y)
-step l b (Withdraw i) = noLines (withdrawing l b i)
-step l b Issue = noLines (issuing l b)
 
 -- what a call handed out: the lines of an accepted closing, the new plan year of an accepted replan, the tonnes of an accepted issue;
 -- a refused call hands out nothing, and a withdrawal nothing that is counted
@@ -41,11 +25,20 @@ pub data Event : Type 0 where
   Paid : ℕ → Event
   Nothing : Event
 
-abbrev pub event : Call → LeftLines → Event
-event (Close x) m = cond (m .answer .done) (Lines (m .lines)) Nothing
-event (Replan i y) m = cond (m .answer .done) (Planned i y) Nothing
-event (Withdraw i) m = Nothing
-event Issue m = cond (m .answer .done) (Paid (m .answer .value)) Nothing
+-- the book after a call, and what it handed out, by the definitions that the contracts cite
+pub record Step : Type 0 where
+  pub book : List ℕ
+  pub event : Event
+
+-- a call that leaves m hands out `event` where it was accepted
+abbrev pub handing : Left → Event → Step
+handing m event = record { book = m .book; event = cond (m .answer .done) event Nothing }
+
+abbrev pub step : List ℕ → List ℕ → Call → Step
+step l b (Close x) = let m = closing l b x in handing m (Lines (m .output))
+step l b (Replan i y) = handing (replanning l b i y) (Planned i y)
+step l b (Withdraw i) = handing (withdrawing l b i) Nothing
+step l b Issue = let m = issuing l b in handing m (Paid (m .answer .value))
 
 -- the newest first
 abbrev pub History : Type 0
@@ -57,7 +50,7 @@ pub record State : Type 0 where
   pub history : History
 
 abbrev pub next : List ℕ → State → Call → State
-next l s c = record { book = step l (s .book) c .book; history = event c (step l (s .book) c) ∷ s .history }
+next l s c = let m = step l (s .book) c in record { book = m .book; history = m .event ∷ s .history }
 
 unfoldable pub run : List ℕ → State → List Call → State
 run l s [] = s
@@ -143,13 +136,16 @@ EachClosing P (Planned j y ∷ h) = EachClosing P h
 EachClosing P (Paid t ∷ h) = EachClosing P h
 EachClosing P (Nothing ∷ h) = EachClosing P h
 
--- d of cell i in year t; where the plan year is 0 or above the year, d counts as 0
-unfoldable pub dOf : List ℕ → ℕ → ℕ → ℕ → ℕ
-dOf l i plan t = cond (unconverted plan t) 0 (drained (row l (cell l i .stratum) (age plan t)))
+-- d of cell i in the year after the history `before`; where the plan year is 0 or above the year, d counts as 0
+unfoldable pub dOf : List ℕ → Start → History → ℕ → ℕ
+dOf l s before i =
+    let plan = planIn s before i in
+    let year = suc (yearIn s before) in
+    cond (unconverted plan year) 0 (drained (row l (cell l i .stratum) (age plan year)))
 
--- if the cell burned in that year, its burned line leaves the guard dry above the water
+-- if the cell burned in that year, its burned line leaves the guard (400 mm for every listing) dry above the water
 abbrev pub StayedDry : List ℕ → Start → ℕ → List ℕ → History → Type 0
-StayedDry l s i x before = 0 < burnedLine x i → guard l + burnedLine x i ≤ dOf l i (planIn s before i) (suc (yearIn s before))
+StayedDry l s i x before = 0 < burnedLine x i → guard l + burnedLine x i ≤ dOf l s before i
 
 -- of cell i: a statement is accepted, and what it says remains and the lines handed out make the entered depth; the kg lines add up to
 -- the emission of the two sums; after each fire the guard stayed dry
@@ -179,4 +175,4 @@ pub record Brings (l b : List ℕ) (s : Start) : Type 0 where
   pub kg-is : (i : ℕ) → i < cells l → s .kg i ≡ emission (head l) (cell l i) (s .oxidised i) (s .burned i)
 
 abbrev pub EveryListFrom : Type 0
-EveryListFrom = (l b : List ℕ) (s : Start) → admittedOnly l b .done ≡ true → Brings l b s → (calls : List Call) → Kept l s (run l (record { book = b; history = [] }) calls)
+EveryListFrom = (l b : List ℕ) (s : Start) → admitted l b .done ≡ true → Brings l b s → (calls : List Call) → Kept l s (run l (record { book = b; history = [] }) calls)

@@ -1,3 +1,2 @@
--- What is proved of every list of calls, and of the order of the cells.
+-- What is proved of every list of calls.
 pub mod History
-pub mod Order

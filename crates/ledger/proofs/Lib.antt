@@ -1,3 +1,4 @@
 -- Laws of the six calls.
-pub mod Settle
 pub mod Reached
+pub mod After
+pub mod Untouched

@@ -1,44 +1,24 @@
 -- Document 01, "Book and calls": what each call on a listing l and a book b answers, and what it leaves in the slices lent to it.
-use Prim.Native.Nat.{ℕ, _+_}
-use mathlib.Core.Bool.{Bool, true, false, cond, not, _&&_, _||_}
-use mathlib.Core.List.{List}
+use mathlib.Core.Path.{_≡_}
+use Prim.Native.Nat.{ℕ, _+_, _*_, _≤_}
+use mathlib.Core.Bool.{Bool, false, cond, not, _&&_, _||_}
+use mathlib.Core.List.{List, []}
 use lib.Dec.{leb, ltb, eqb}
-use lib.ListN.{length, set}
+use lib.ListN.{length, getD}
 use Rattle.words.specs.Answers.{Answer, accepted, refused, need, after}
+use Rattle.words.specs.Left.{Left, settle, settleBoth}
 use Rattle.words.specs.Refusals.{noSuchCell, cellWithdrawn, cellConverted, yearNotAhead}
-use Rattle.listing.specs.Layout.{head, cells, horizon, cell}
-use Rattle.year.specs.Year.{unconverted, remaining, kgOf}
-use Rattle.book.specs.Layout.{issuedAt, entryAt, year, issued, entry, issuedWord, planWord}
-use Rattle.book.specs.Check.{fitted, admittedOnly}
+use Rattle.listing.specs.Layout.{cells, horizon, cell}
+use Rattle.year.specs.Year.{unconverted, remaining, planned, marked}
+use Rattle.book.specs.Current.{bookSize, issued, entry, kgTo, withIssued, withPlan, fitted, admitted}
+use Rattle.book.specs.Layout.{lineWords, year}
 use Rattle.balance.specs.Balance.{tonnesDue}
 use Rattle.opening.specs.Opening.{openBook}
 use Rattle.closing.specs.Closing.{bookAfter, linesAfter, closeAnswer}
-use Rattle.ledger.specs.declared.Issued.{Issued}
-use Rattle.ledger.specs.declared.Issued.the-variants.{Tonnes}
-use Rattle.ledger.specs.declared.Issued.the-variants as issue
 use Rattle.ledger.specs.declared.Account.{Account}
 use Rattle.ledger.specs.declared.Stated.{Stated}
 use Rattle.ledger.specs.declared.Stated.the-variants.{Told}
 use Rattle.ledger.specs.declared.Stated.the-variants as state
-
--- ---- what a call leaves
-
--- its answer, and the book then
-pub record Left : Type 0 where
-  pub answer : Answer
-  pub book : List ℕ
-
--- the two together
-abbrev pub leaves : Answer → List ℕ → Left
-leaves a b = record { answer = a; book = b }
-
--- a refusal writes no buffer: the slice holds `new` where the call is accepted, and what it held where not
-unfoldable pub written : Answer → List ℕ → List ℕ → List ℕ
-written a old new = cond (a .done) new old
-
--- what a call on the book alone leaves
-abbrev pub settle : Answer → List ℕ → List ℕ → Left
-settle a old new = leaves a (written a old new)
 
 -- ---- open: year 0, 0 issued, plan years of the listing, nothing withdrawn, zeros
 
@@ -48,21 +28,9 @@ opening l b = settle (fitted l b) b (openBook l b)
 
 -- ---- close, with a lines buffer x
 
--- its answer, and the book and the lines buffer then
-pub record LeftLines : Type 0 where
-  pub answer : Answer
-  pub book : List ℕ
-  pub lines : List ℕ
-
--- the three together
-abbrev pub leavesLines : Answer → List ℕ → List ℕ → LeftLines
-leavesLines a b x = record { answer = a; book = b; lines = x }
-
 -- refused by 1 to 9 and 14, and then neither slice is written
-unfoldable pub closing : List ℕ → List ℕ → List ℕ → LeftLines
-closing l b x =
-    let a = closeAnswer l b (length x) in
-    leavesLines a (written a b (bookAfter l b)) (written a x (linesAfter l b x))
+unfoldable pub closing : List ℕ → List ℕ → List ℕ → Left
+closing l b x = settleBoth (closeAnswer l b (length x)) b (bookAfter l b) x (linesAfter l b x)
 
 -- ---- calls on cell i: number 10, and for replan and withdraw 11
 
@@ -72,7 +40,7 @@ cellChecked l i = need (ltb i (cells l)) noSuchCell 0 (accepted 0)
 
 -- after 1 to 8
 unfoldable pub reached : List ℕ → List ℕ → ℕ → Answer
-reached l b i = after (admittedOnly l b) (cellChecked l i)
+reached l b i = after (admitted l b) (cellChecked l i)
 
 -- 11, cell withdrawn
 unfoldable pub markChecked : List ℕ → ℕ → Answer
@@ -99,30 +67,25 @@ planChecked l b i y =
 unfoldable pub replanAnswer : List ℕ → List ℕ → ℕ → ℕ → Answer
 replanAnswer l b i y = after (standing l b i) (planChecked l b i y)
 
--- the cell's word of kind 10 alone is written; a cell that stands is not marked
+-- the cell's word of kind 10 alone is written; the mark stays, and a cell that stands has none
 unfoldable pub replanning : List ℕ → List ℕ → ℕ → ℕ → Left
-replanning l b i y = settle (replanAnswer l b i y) b (set b (entryAt i) (planWord false y))
+replanning l b i y = settle (replanAnswer l b i y) b (withPlan b i (planned (entry b i) y))
 
 -- ---- withdraw: marks a cell for good; what it has lost stays counted
 
 -- the mark is set, and the plan year stays
 unfoldable pub withdrawing : List ℕ → List ℕ → ℕ → Left
-withdrawing l b i = settle (standing l b i) b (set b (entryAt i) (planWord true (entry b i .plan)))
+withdrawing l b i = settle (standing l b i) b (withPlan b i (marked (entry b i)))
 
 -- ---- issue: answers what is due, and adds it to issued
 
--- the cases of the answer, in the paper's numbers
-abbrev pub issuedAs : Issued → Answer
-issuedAs (Tonnes t) = accepted t
-issuedAs (issue.Refused r) = refused (r .number) (r .place)
-
 -- refused by 1 to 8, and otherwise balance − issued, or 0
 unfoldable pub issueAnswer : List ℕ → List ℕ → Answer
-issueAnswer l b = after (admittedOnly l b) (accepted (tonnesDue l b))
+issueAnswer l b = after (admitted l b) (accepted (tonnesDue l b))
 
 -- the answer is added to issued
 unfoldable pub issuing : List ℕ → List ℕ → Left
-issuing l b = settle (issueAnswer l b) b (set b issuedAt (issuedWord (issued b + tonnesDue l b)))
+issuing l b = settle (issueAnswer l b) b (withIssued b (issued b + tonnesDue l b))
 
 -- ---- statement: a cell's entered, remaining, O, B, kg to date, plan year and mark; writes nothing
 
@@ -148,7 +111,7 @@ accountOf l b i =
       remaining = remaining (cell l i) (entry b i);
       oxidised = entry b i .oxidised;
       burned = entry b i .burned;
-      kg = kgOf (head l) (cell l i) (entry b i);
+      kg = kgTo l b i;
       «plan_year» = entry b i .plan;
       withdrawn = entry b i .withdrawn;
     }
@@ -156,3 +119,39 @@ accountOf l b i =
 -- refused by 1 to 10
 unfoldable pub stating : List ℕ → List ℕ → ℕ → Telling
 stating l b i = record { answer = reached l b i; account = cond (reached l b i .done) (accountOf l b i) noAccount }
+
+-- ---- any call that may write
+
+-- with whatever arguments the caller gives: any lines buffer, any cell, any year
+pub data Call : Type 0 where
+  Close : List ℕ → Call
+  Replan : ℕ → ℕ → Call
+  Withdraw : ℕ → Call
+  Issue : Call
+
+-- what it answers and leaves
+abbrev pub calling : List ℕ → List ℕ → Call → Left
+calling l b (Close x) = closing l b x
+calling l b (Replan i y) = replanning l b i y
+calling l b (Withdraw i) = withdrawing l b i
+calling l b Issue = issuing l b
+
+-- its lines buffer
+abbrev pub lent : Call → List ℕ
+lent (Close x) = x
+lent (Replan i y) = []
+lent (Withdraw i) = []
+lent Issue = []
+
+-- y is as long as x, and has x's words from place n on
+pub record Beyond (n : ℕ) (x y : List ℕ) : Type 0 where
+  pub length-is : length y ≡ length x
+  pub words-are : (k : ℕ) → n ≤ k → getD y k 0 ≡ getD x k 0
+
+-- words beyond those needed are untouched, in the book and in the lines; proofs/Untouched.antt proves it of every call
+pub record Untouched (l b : List ℕ) (c : Call) : Type 0 where
+  pub book : Beyond (bookSize (cells l)) b (calling l b c .book)
+  pub lines : Beyond (lineWords * cells l) (lent c) (calling l b c .output)
+
+abbrev pub EveryUntouched : Type 0
+EveryUntouched = (l b : List ℕ) (c : Call) → Untouched l b c

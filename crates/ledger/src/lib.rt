@@ -1,11 +1,15 @@
 // The ledger's six calls. None asks anything of its caller; each answers a number and a place where
 // it is refused, and then it has written nothing.
 ghost use mathlib.Core.Path.{_≡_};
-ghost use Rattle.words.specs.Answers.{outcome};
+ghost use mathlib.Core.List.{[]};
+ghost use Rattle.words.specs.Answers.{outcome, amount};
 ghost use Rattle.listing.specs.Accepted.{Accepted};
-ghost use Rattle.book.specs.Sound.{Room};
-ghost use Rattle.ledger.specs.Calls.{leaves, opening, leavesLines, closing, cellChecked, reached, markChecked, standing, planChecked, replanAnswer, replanning, withdrawing, issuedAs, issuing, statedAs, accountOf, stating};
+ghost use Rattle.words.specs.Left.{leaves};
+ghost use Rattle.book.specs.Current.{Room};
+ghost use Rattle.ledger.specs.Calls.{opening, closing, cellChecked, reached, markChecked, standing, planChecked, replanAnswer, replanning, withdrawing, issuing, statedAs, accountOf, stating};
 ghost use Rattle.ledger.specs.Reached.{Reached};
+use book::BOOK;
+use words::Amount;
 use words::CELL_CONVERTED;
 use words::CELL_WITHDRAWN;
 use words::NO_SUCH_CELL;
@@ -13,12 +17,6 @@ use words::Outcome;
 use words::Refusal;
 use words::YEAR_NOT_AHEAD;
 use words::refuse;
-
-// The answer of an issue.
-pub enum Issued {
-    Tonnes(u32),
-    Refused(Refusal),
-}
 
 // What is told of a cell: mm entered, remaining, oxidised and burned to date, kg to date, its plan
 // year and its mark.
@@ -40,9 +38,9 @@ pub enum Stated {
 
 // Opens a book for a listing.
 pub fn open(listing: &[u32], book: &mut [u32]) -> Outcome
-    ensures { λ r. ⌜ leaves (outcome r) (now (book .exit)) ≡ opening (now (listing .entry)) (now (book .entry)) ⌝ }
+    ensures { λ r. ⌜ leaves (outcome r) (now (book .exit)) [] ≡ opening (now (listing .entry)) (now (book .entry)) ⌝ }
 {
-    let v = book::fits(listing, &book[..]);
+    let v = book::fits(BOOK, listing, &book[..]);
     match v {
         Outcome::Done => {
             opening::open_book(listing, book);
@@ -54,7 +52,7 @@ pub fn open(listing: &[u32], book: &mut [u32]) -> Outcome
 
 // Closes the year after the current one: three line words for each cell, and the book.
 pub fn close(listing: &[u32], book: &mut [u32], lines: &mut [u32]) -> Outcome
-    ensures { λ r. ⌜ leavesLines (outcome r) (now (book .exit)) (now (lines .exit)) ≡ closing (now (listing .entry)) (now (book .entry)) (now (lines .entry)) ⌝ }
+    ensures { λ r. ⌜ leaves (outcome r) (now (book .exit)) (now (lines .exit)) ≡ closing (now (listing .entry)) (now (book .entry)) (now (lines .entry)) ⌝ }
 {
     let v = closing::may_close(listing, &book[..], lines.len());
     match v {
@@ -82,7 +80,7 @@ fn check_cell(listing: &[u32], cell: usize) -> Outcome
 fn reach(listing: &[u32], book: &[u32], cell: usize) -> Outcome
     ensures { λ r. ⌜ outcome r ≡ reached (now (listing .entry)) (now (book .entry)) cell ⌝ }
 {
-    match book::admit(listing, book, 0, 0) {
+    match book::admit(BOOK, listing, book) {
         Outcome::Done => check_cell(listing, cell),
         Outcome::Refused(why) => Outcome::Refused(why),
     }
@@ -93,7 +91,7 @@ fn check_mark(book: &[u32], cell: usize) -> Outcome
     requires { ⌜ Room (now book) cell ⌝ }
     ensures { λ r. ⌜ outcome r ≡ markChecked (now (book .entry)) cell ⌝ }
 {
-    let e = book::entry(book, cell);
+    let e = book::entry(BOOK, book, cell);
     if e.withdrawn {
         return refuse(CELL_WITHDRAWN, 0);
     }
@@ -116,7 +114,7 @@ fn check_plan(listing: &[u32], book: &[u32], cell: usize, year: u32) -> Outcome
     ensures { λ r. ⌜ outcome r ≡ planChecked (now (listing .entry)) (now (book .entry)) cell year ⌝ }
 {
     let current = book::year(book);
-    let e = book::entry(book, cell);
+    let e = book::entry(BOOK, book, cell);
     if !year::unconverted(e.plan, current) {
         return refuse(CELL_CONVERTED, 0);
     }
@@ -139,12 +137,13 @@ fn may_replan(listing: &[u32], book: &[u32], cell: usize, year: u32) -> Outcome
 
 // Gives a cell that is not yet converted another plan year, or 0 for never.
 pub fn replan(listing: &[u32], book: &mut [u32], cell: usize, year: u32) -> Outcome
-    ensures { λ r. ⌜ leaves (outcome r) (now (book .exit)) ≡ replanning (now (listing .entry)) (now (book .entry)) cell year ⌝ }
+    ensures { λ r. ⌜ leaves (outcome r) (now (book .exit)) [] ≡ replanning (now (listing .entry)) (now (book .entry)) cell year ⌝ }
 {
     let v = may_replan(listing, &book[..], cell, year);
     match v {
         Outcome::Done => {
-            book::put_plan(book, cell, false, year);
+            let e = book::entry(BOOK, &book[..], cell);
+            book::put_plan(BOOK, book, cell, year::planned(e, year));
             Outcome::Done
         }
         Outcome::Refused(why) => Outcome::Refused(why),
@@ -153,32 +152,32 @@ pub fn replan(listing: &[u32], book: &mut [u32], cell: usize, year: u32) -> Outc
 
 // Marks a cell for good. What it has lost stays counted.
 pub fn withdraw(listing: &[u32], book: &mut [u32], cell: usize) -> Outcome
-    ensures { λ r. ⌜ leaves (outcome r) (now (book .exit)) ≡ withdrawing (now (listing .entry)) (now (book .entry)) cell ⌝ }
+    ensures { λ r. ⌜ leaves (outcome r) (now (book .exit)) [] ≡ withdrawing (now (listing .entry)) (now (book .entry)) cell ⌝ }
 {
     let v = stand(listing, &book[..], cell);
     match v {
         Outcome::Done => {
-            let e = book::entry(&book[..], cell);
-            book::put_plan(book, cell, true, e.plan);
+            let e = book::entry(BOOK, &book[..], cell);
+            book::put_plan(BOOK, book, cell, year::marked(e));
             Outcome::Done
         }
         Outcome::Refused(why) => Outcome::Refused(why),
     }
 }
 
-// Pays out of the balance what was not issued before.
-pub fn issue(listing: &[u32], book: &mut [u32]) -> Issued
-    ensures { λ r. ⌜ leaves (issuedAs r) (now (book .exit)) ≡ issuing (now (listing .entry)) (now (book .entry)) ⌝ }
+// Pays out of the balance what was not issued before, in tonnes.
+pub fn issue(listing: &[u32], book: &mut [u32]) -> Amount
+    ensures { λ r. ⌜ leaves (amount r) (now (book .exit)) [] ≡ issuing (now (listing .entry)) (now (book .entry)) ⌝ }
 {
-    let v = book::admit(listing, &book[..], 0, 0);
+    let v = book::admit(BOOK, listing, &book[..]);
     match v {
         Outcome::Done => {
             let tonnes = balance::tonnes_due(listing, &book[..]);
-            let issued = book::issued(&book[..]);
-            book::put_issued(book, issued + tonnes);
-            Issued::Tonnes(tonnes)
+            let issued = book::issued(BOOK, &book[..]);
+            book::put_issued(BOOK, book, issued + tonnes as u64);
+            Amount::Value(tonnes)
         }
-        Outcome::Refused(why) => Issued::Refused(why),
+        Outcome::Refused(why) => Amount::Refused(why),
     }
 }
 
@@ -188,13 +187,13 @@ fn account_of(listing: &[u32], book: &[u32], cell: usize) -> Account
 {
     let h = listing::head(listing);
     let c = listing::cell(listing, cell);
-    let e = book::entry(book, cell);
+    let e = book::entry(BOOK, book, cell);
     Account {
         entered: c.entered,
         remaining: c.entered - (e.oxidised + e.burned),
         oxidised: e.oxidised,
         burned: e.burned,
-        kg: year::emission(h, c, e.oxidised, e.burned),
+        kg: book::kg_of(h, c, book::words_of(BOOK, book, cell)),
         plan_year: e.plan,
         withdrawn: e.withdrawn,
     }

@@ -12,30 +12,35 @@ use Rattle.words.specs.declared.Outcome.the-variants.{Done}
 use Rattle.words.specs.Answers.{Answer, outcome}
 use Rattle.words.proofs.Steps.{row-within}
 use Rattle.words.proofs.Answers.{need-says, every-says}
-use Rattle.fields.specs.Words.{mostStrata, mostHorizon, isSizeWord, isFigureWord, isDepthWord, isAreaWord, isAbove}
-use Rattle.fields.specs.Right.{HeadRight, TermRight}
+use Rattle.fields.specs.Words.{mostStrata, mostHorizon, isSizeWord, isDepthWord, isAreaWord, isAbove}
+use Rattle.fields.specs.Right.{SizesWithin, TermRight}
 use Rattle.fields.specs.declared.Head.{Head}
-use Rattle.fields.proofs.Right.{head-right, row-right, cell-right, term-right, number, number-below, number-above}
-use Rattle.listing.specs.Layout.{cellWords, head, cells, strata, horizon, startsOf, starts, rowAt, cellAt}
-use Rattle.listing.specs.Check.{isCellWord, laterChecked, checked}
+use Rattle.fields.proofs.Right.{sizes-within, head-right, row-right, cell-right, term-right, number, number-below, number-above}
+use Rattle.listing.specs.Layout.{leastWords, cellWords, head, cells, strata, horizon, startsOf, starts, rowAt, cellAt}
+use Rattle.listing.specs.Check.{isCellWord, wordsChecked, laterChecked, checked}
 use Rattle.listing.specs.Accepted.{InTurn, Accepted}
 use Rattle.listing.specs.declared.Starts.{Starts}
 
 -- ---- the head
 
 -- the words of the tables
-pub rows-few : {h : Head} → HeadRight h → h .strata * h .horizon ≤ mostStrata * mostHorizon
-rows-few r = mul-le-mul {n₂ = mostStrata} {m₂ = mostHorizon} (r .strata .1) (r .horizon .1)
+pub rows-few : {h : Head} → SizesWithin h → h .strata * h .horizon ≤ mostStrata * mostHorizon
+rows-few r = mul-le-mul {n₂ = mostStrata} {m₂ = mostHorizon} (r .strata) (r .horizon)
 
-pub in-turn : {h : Head} → HeadRight h → InTurn h (startsOf h)
+in-turn : {h : Head} → SizesWithin h → InTurn h (startsOf h)
 unfolding startsOf
 in-turn {h} r = record { tables = refl; cells = refl; terms = refl; few = omega (arith, rows-few r) }
 
--- the same of what `head` and `starts_of` answered, h and s
-pub head-right-by : (l : List ℕ) (h : Head) → h ≡ head l → isSizeWord (getD l 0 0) ≡ true → isFigureWord (getD l 1 0) ≡ true → HeadRight h
-head-right-by l h e p q = rw e (head-right (getD l 0 0) (getD l 1 0) p q)
+-- where cells and terms begin, for any figures
+pub parts-follow : (h : Head) → (leastWords ≤ startsOf h .cells) × (startsOf h .terms ≡ startsOf h .cells + cellWords * h .cells)
+unfolding startsOf
+parts-follow h = (omega arith, refl)
 
-pub in-turn-by : (h : Head) (s : Starts) → s ≡ startsOf h → HeadRight h → InTurn h s
+-- of what `head` and `starts_of` answered, h and s
+pub sizes-by : (l : List ℕ) (h : Head) → h ≡ head l → isSizeWord (getD l 0 0) ≡ true → SizesWithin h
+sizes-by l h e p = rw e (sizes-within (getD l 0 0) (getD l 1 0) p)
+
+pub in-turn-by : (h : Head) (s : Starts) → s ≡ startsOf h → SizesWithin h → InTurn h s
 in-turn-by h s e r = rw e (in-turn r)
 
 pub later-by : (l : List ℕ) (h : Head) (s : Starts) (v : Answer) → h ≡ head l → s ≡ startsOf h → v ≡ laterChecked l h s → v ≡ laterChecked l (head l) (starts l)
@@ -82,14 +87,14 @@ module _ (l : List ℕ) (horizon start : ℕ)
 -- ---- all of it
 
 pub accepted : (l : List ℕ) → checked l .done ≡ true → Accepted l
-unfolding checked laterChecked
+unfolding checked laterChecked wordsChecked
 accepted l h =
     let h₁ = need-says _ _ _ _ h in
     let h₂ = need-says _ _ _ _ (h₁ .1) in
     let h₃ = need-says _ _ _ _ (h₂ .1) in
     let h₄ = need-says _ _ _ _ (h₃ .1) in
     let right = head-right (getD l 0 0) (getD l 1 0) (h₂ .0) (h₃ .0) in
-    let parts = in-turn right in
+    let parts = in-turn (sizes-within (getD l 0 0) (getD l 1 0) (h₂ .0)) in
     let long = leb-true _ _ (h₄ .0) in
     let h₅ = every-says _ _ _ _ _ (h₄ .1) in
     let h₆ = every-says _ _ _ _ _ (h₅ .1) in
@@ -120,8 +125,10 @@ terms-few l a =
 
 -- ---- of an accepted listing, with h and s what `head` and `starts_of` answered
 
-pub head-by : (l : List ℕ) (h : Head) → h ≡ head l → Accepted l → HeadRight h
-head-by l h e a = rw e (a .head-right)
+pub accepted-sizes : (l : List ℕ) (h : Head) → h ≡ head l → Accepted l → SizesWithin h
+accepted-sizes l h e a =
+    let r = a .head-right in
+    rw e (record { cells = r .cells .1; strata = r .strata .1; horizon = r .horizon .1 })
 
 module _ (l : List ℕ) (h : Head) (s : Starts) (e : h ≡ head l) (f : s ≡ startsOf h) (a : Accepted l) where
   starts-by : s ≡ starts l

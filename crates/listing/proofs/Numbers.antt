@@ -5,11 +5,11 @@ use native.Mathlib.Omega.{arith}
 use Rattle.words.specs.Answers.{Answer, accepted, refused}
 use Rattle.words.specs.Refusals.{tooFewWords, termNotAbove}
 use Rattle.words.proofs.Answers.{need-either, unfound-either}
-use Rattle.listing.specs.Check.{laterChecked, checked}
+use Rattle.listing.specs.Check.{wordsChecked, laterChecked, checked}
 
 -- so what holds of these holds of every answer of the check
 pub checked-either : (P : Answer → Type 0) → ((n k : ℕ) → tooFewWords ≤ n → n ≤ termNotAbove → P (refused n k)) → P (accepted 0) → (l : List ℕ) → P (checked l)
-unfolding checked laterChecked
+unfolding checked laterChecked wordsChecked
 checked-either P r a l =
     need-either P _ 1 _ _ (r 1 _ (omega arith) (omega arith))
     (need-either P _ 2 _ _ (r 2 _ (omega arith) (omega arith))

@@ -4,18 +4,18 @@ use mathlib.Core.Bool.{true}
 use Prim.Native.Nat.{ℕ, _+_, _-_, _*_, _≤_, _<_}
 use mathlib.Core.List.{List}
 use lib.ListN.{length, getD}
-use Rattle.fields.specs.Words.{mostCells, mostStrata, mostHorizon, isAbove}
+use Rattle.fields.specs.Words.{isAbove}
 use Rattle.fields.specs.Right.{HeadRight, RowRight, CellRight, TermRight}
 use Rattle.fields.specs.declared.Head.{Head}
-use Rattle.listing.specs.Layout.{headWords, cellWords, head, cells, strata, horizon, starts, row, cell}
+use Rattle.listing.specs.Layout.{cellWords, tablesAt, mostTermsAt, head, cells, strata, horizon, starts, row, cell}
 use Rattle.listing.specs.declared.Starts.{Starts}
 
 -- the parts follow each other, and the terms begin at word 2,114 or before
 pub record InTurn (h : Head) (s : Starts) : Type 0 where
-  pub tables : s .tables ≡ headWords
+  pub tables : s .tables ≡ tablesAt h
   pub cells : s .cells ≡ s .tables + h .strata * h .horizon
   pub terms : s .terms ≡ s .cells + cellWords * h .cells
-  pub few : s .terms ≤ headWords + mostStrata * mostHorizon + cellWords * mostCells
+  pub few : s .terms ≤ mostTermsAt
 
 -- all of it
 pub record Accepted (l : List ℕ) : Type 0 where

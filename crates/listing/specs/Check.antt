@@ -8,7 +8,7 @@ use Rattle.words.specs.Answers.{Answer, accepted, need, every}
 use Rattle.words.specs.Refusals.{tooFewWords, headWord, listingShort, laterWord, termNotAbove}
 use Rattle.fields.specs.Words.{isSizeWord, isFigureWord, isTableWord, isDepthWord, isAreaWord, isTermWord, isAbove}
 use Rattle.fields.specs.declared.Head.{Head}
-use Rattle.listing.specs.Layout.{headWords, cellWords, head, starts}
+use Rattle.listing.specs.Layout.{leastWords, cellWords, head, starts}
 use Rattle.listing.specs.declared.Starts.{Starts}
 
 -- "kind, zero bits or range" of the word at place k: of a table
@@ -30,20 +30,23 @@ termRight l horizon k = isTermWord horizon (getD l k 0)
 abbrev pub aboveRight : List ℕ → ℕ → Bool
 aboveRight l k = isAbove (getD l (k - 1) 0) (getD l k 0)
 
--- the words after the head: every 4 is tried before any 5
-unfoldable pub laterChecked : List ℕ → Head → Starts → Answer
-laterChecked l h s =
-    need (leb (s .terms) (length l)) listingShort (length l)
-    (every laterWord (tableRight l) (s .tables) (s .cells)
+-- numbers 4 and 5, the words after the head: every 4 is tried before any 5
+unfoldable pub wordsChecked : List ℕ → Head → Starts → Answer
+wordsChecked l h s =
+    every laterWord (tableRight l) (s .tables) (s .cells)
     (every laterWord (cellRight l (h .strata) (h .horizon) (s .cells)) (s .cells) (s .terms)
     (every laterWord (termRight l (h .horizon)) (s .terms) (length l)
     (every termNotAbove (aboveRight l) (s .terms + 1) (length l)
-    (accepted 0)))))
+    (accepted 0))))
 
--- the answer for any list of words
+-- number 3 before them: fewer words than strata × horizon + 2 × cells + 2, so that the terms would begin behind the end; place its length
+unfoldable pub laterChecked : List ℕ → Head → Starts → Answer
+laterChecked l h s = need (leb (s .terms) (length l)) listingShort (length l) (wordsChecked l h s)
+
+-- the answer for any list of words: 1, fewer than 2; 2, word 0 or 1 by kind, zero bits or range; then the rest
 unfoldable pub checked : List ℕ → Answer
 checked l =
-    need (leb headWords (length l)) tooFewWords 0
+    need (leb leastWords (length l)) tooFewWords 0
     (need (isSizeWord (getD l 0 0)) headWord 0
     (need (isFigureWord (getD l 1 0)) headWord 1
     (laterChecked l (head l) (starts l))))

@@ -3,6 +3,7 @@ use Prim.Native.Nat.{ℕ, _+_, _-_, _*_}
 use mathlib.Core.List.{List}
 use lib.ListN.{getD}
 use Rattle.fields.specs.Fields.{headOf, rowOf, cellOf}
+use Rattle.fields.specs.Words.{mostCells, mostStrata, mostHorizon}
 use Rattle.fields.specs.declared.Head.{Head}
 use Rattle.fields.specs.declared.Row.{Row}
 use Rattle.fields.specs.declared.Cell.{Cell}
@@ -27,24 +28,39 @@ guard l = head l .guard
 abbrev pub leastThickness : List ℕ → ℕ
 leastThickness l = head l .thickness
 
--- the words before the tables, and those of a cell
-abbrev pub headWords : ℕ
-headWords = 2
+-- the words that every listing has: 0 and 1
+abbrev pub leastWords : ℕ
+leastWords = 2
 
+-- the words of a cell
 abbrev pub cellWords : ℕ
 cellWords = 2
 
--- where the tables begin, for each stratum one word for each year of age; then the cells; then the terms
+-- where the tables begin, and the latest such place
+abbrev pub tablesAt : Head → ℕ
+tablesAt h = 2
+
+abbrev pub mostTablesAt : ℕ
+mostTablesAt = 2
+
+-- the tables have for each stratum one word for each year of age; then come the cells; then the terms
 unfoldable pub startsOf : Head → Starts
 startsOf h =
     record {
-      tables = headWords;
-      cells = headWords + h .strata * h .horizon;
-      terms = headWords + h .strata * h .horizon + cellWords * h .cells;
+      tables = tablesAt h;
+      cells = tablesAt h + h .strata * h .horizon;
+      terms = tablesAt h + h .strata * h .horizon + cellWords * h .cells;
     }
 
 abbrev pub starts : List ℕ → Starts
 starts l = startsOf (head l)
+
+-- the latest place where the terms begin, and the words of the longest listing: each year has at most 7 terms
+abbrev pub mostTermsAt : ℕ
+mostTermsAt = mostTablesAt + mostStrata * mostHorizon + cellWords * mostCells
+
+abbrev pub mostWords : ℕ
+mostWords = mostTermsAt + 7 * mostHorizon
 
 -- the row of a stratum's table for a year of age, 1 to the horizon
 abbrev pub rowAt : List ℕ → ℕ → ℕ → ℕ

@@ -5,9 +5,9 @@ ghost use Prim.Native.Nat.{_+_, _*_, _<_, _≤_};
 ghost use lib.ListN.{length};
 ghost use Rattle.words.specs.Search.{firstWrong};
 ghost use Rattle.words.specs.Answers.{outcome};
-ghost use Rattle.fields.specs.Right.{HeadRight};
-ghost use Rattle.listing.specs.Layout.{headWords, head, cells, strata, horizon, startsOf, rowAt, row, cellAt, cell};
-ghost use Rattle.listing.specs.Check.{isCellWord, tableRight, cellRight, termRight, aboveRight, laterChecked, checked};
+ghost use Rattle.fields.specs.Right.{SizesWithin};
+ghost use Rattle.listing.specs.Layout.{leastWords, head, cells, strata, horizon, startsOf, rowAt, row, cellAt, cell};
+ghost use Rattle.listing.specs.Check.{isCellWord, tableRight, cellRight, termRight, aboveRight, wordsChecked, laterChecked, checked};
 ghost use Rattle.listing.specs.Accepted.{InTurn, Accepted};
 use fields::Cell;
 use fields::Head;
@@ -23,7 +23,11 @@ use words::TERM_NOT_ABOVE;
 use words::TOO_FEW_WORDS;
 use words::refuse;
 
-const HEAD_WORDS: usize = 2;
+// The words that every listing has.
+const LEAST_WORDS: usize = 2;
+
+// Where the tables begin.
+const TABLES_AT: usize = 2;
 
 const CELL_WORDS: usize = 2;
 
@@ -31,7 +35,7 @@ const CELL_WORDS: usize = 2;
 const YEAR_TERMS: usize = 7;
 
 // The words of the longest listing: 2,814.
-pub const MOST_WORDS: usize = HEAD_WORDS
+pub const MOST_WORDS: usize = TABLES_AT
     + (MOST_STRATA * MOST_HORIZON) as usize
     + CELL_WORDS * MOST_CELLS as usize
     + YEAR_TERMS * MOST_HORIZON as usize;
@@ -190,7 +194,7 @@ fn first_not_above(listing: &[u32], start: usize) -> usize
 
 // What the head of a listing says.
 pub fn head(listing: &[u32]) -> Head
-    requires { ⌜ headWords ≤ length (now listing) ⌝ }
+    requires { ⌜ leastWords ≤ length (now listing) ⌝ }
     ensures { λ r. ⌜ r ≡ head (now (listing .entry)) ⌝ }
 {
     fields::head_of(listing[0], listing[1])
@@ -198,12 +202,12 @@ pub fn head(listing: &[u32]) -> Head
 
 // Where the parts begin in a listing of these sizes.
 pub fn starts_of(h: Head) -> Starts
-    requires { ⌜ HeadRight h ⌝ }
+    requires { ⌜ SizesWithin h ⌝ }
     ensures { λ r. ⌜ r ≡ startsOf h ⌝ }
 {
-    let cells = HEAD_WORDS + (h.strata * h.horizon) as usize;
+    let cells = TABLES_AT + (h.strata * h.horizon) as usize;
     Starts {
-        tables: HEAD_WORDS,
+        tables: TABLES_AT,
         cells,
         terms: cells + CELL_WORDS * h.cells as usize,
     }
@@ -245,14 +249,11 @@ pub fn cell(listing: &[u32], i: usize) -> Cell
     fields::cell_of(listing[at], listing[at + 1])
 }
 
-// The answer for the words after the head, whose parts begin at `s`.
-fn check_later(listing: &[u32], h: Head, s: Starts) -> Outcome
-    requires { ⌜ InTurn h s ⌝ }
-    ensures { λ r. ⌜ outcome r ≡ laterChecked (now (listing .entry)) h s ⌝ }
+// Numbers 4 and 5, for the words after the head, whose parts begin at `s`.
+fn check_words(listing: &[u32], h: Head, s: Starts) -> Outcome
+    requires { ⌜ InTurn h s × (s .terms ≤ length (now listing)) ⌝ }
+    ensures { λ r. ⌜ outcome r ≡ wordsChecked (now (listing .entry)) h s ⌝ }
 {
-    if listing.len() < s.terms {
-        return refuse(LISTING_SHORT, listing.len());
-    }
     let table = first_table(
         listing,
         h.strata as usize,
@@ -278,11 +279,22 @@ fn check_later(listing: &[u32], h: Head, s: Starts) -> Outcome
     Outcome::Done
 }
 
+// Number 3, and then the words.
+fn check_later(listing: &[u32], h: Head, s: Starts) -> Outcome
+    requires { ⌜ InTurn h s ⌝ }
+    ensures { λ r. ⌜ outcome r ≡ laterChecked (now (listing .entry)) h s ⌝ }
+{
+    if listing.len() < s.terms {
+        return refuse(LISTING_SHORT, listing.len());
+    }
+    check_words(listing, h, s)
+}
+
 // The answer for any words: numbers 1 to 5.
 pub fn check(listing: &[u32]) -> Outcome
     ensures { λ r. ⌜ outcome r ≡ checked (now (listing .entry)) ⌝ }
 {
-    if listing.len() < HEAD_WORDS {
+    if listing.len() < LEAST_WORDS {
         return refuse(TOO_FEW_WORDS, 0);
     }
     if !fields::is_size_word(listing[0]) {

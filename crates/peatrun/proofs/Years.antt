@@ -1,41 +1,43 @@
 -- Which answers peatrun meets: an open is refused by the listing's own numbers alone, and no call after it is refused. Assumes nothing.
 use mathlib.Core.Path.{_≡_, sym, ap, _∙_}
 use mathlib.Core.Bool.{Bool, true, false, cond, false≢true}
-use mathlib.Core.List.{List}
+use mathlib.Core.List.{List, []}
 use Prim.Native.Nat.{ℕ, _+_, _*_, _≤_, _<_}
 use native.Mathlib.Numerals.{add-one}
 use native.Mathlib.Omega.{arith}
 use lib.Dec.{leb}
 use lib.ListN.{length}
 use borrow.Author.Tests.{le-leb}
-use Rattle.words.specs.Answers.{Answer, accepted, outcome, after}
+use Rattle.words.specs.Answers.{Answer, accepted, outcome, amount, after}
+use Rattle.words.specs.Left.{Left, leaves}
 use Rattle.words.specs.Refusals.{bookShort}
 use Rattle.words.specs.declared.Refusal.{Refusal}
 use Rattle.words.specs.declared.Outcome.{Outcome}
 use Rattle.words.specs.declared.Outcome.the-variants.{Done, Refused}
+use Rattle.words.specs.declared.Amount.{Amount}
+use Rattle.words.specs.declared.Amount.the-variants as amounts
 use Rattle.words.proofs.Answers.{need-is, after-is}
 use Rattle.words.proofs.Signed.{by-test}
 use Rattle.fields.specs.Words.{mostCells}
-use Rattle.listing.specs.Layout.{headWords, cells, horizon, cell}
+use Rattle.listing.specs.Layout.{leastWords, cells, horizon, cell}
 use Rattle.listing.specs.Check.{checked}
 use Rattle.listing.proofs.Accepted.{accepted as accepted-listing}
 use Rattle.listing.proofs.Numbers.{checked-either}
 use Rattle.year.specs.Year.{remaining}
-use Rattle.book.specs.Layout.{lineWords, bookSize, year, entry}
-use Rattle.book.specs.Check.{roomChecked, fitted, admittedOnly}
-use Rattle.book.proofs.Sound.{sound}
+use Rattle.book.specs.Current.{current, bookSize, entry, fitted, admitted}
+use Rattle.book.specs.Layout.{lineWords}
+use Rattle.book.specs.Check.{roomChecked}
+use Rattle.book.specs.Check as check
+use Rattle.book.proofs.Sound.{shaped, sound}
 use Rattle.closing.specs.Closable.{Closable}
 use Rattle.closing.proofs.Closable.{closable-before, closes}
-use Rattle.ledger.specs.Calls.{Left, LeftLines, leaves, leavesLines, opening, closing, issueAnswer, issuing, issuedAs, Telling, noAccount, statedAs, accountOf, stating}
-use Rattle.ledger.specs.declared.Issued.{Issued}
-use Rattle.ledger.specs.declared.Issued.the-variants.{Tonnes}
-use Rattle.ledger.specs.declared.Issued.the-variants as issue
+use Rattle.ledger.specs.Calls.{opening, closing, issueAnswer, issuing, Telling, noAccount, statedAs, accountOf, stating}
 use Rattle.ledger.specs.declared.Account.{Account}
 use Rattle.ledger.specs.declared.Stated.{Stated}
 use Rattle.ledger.specs.declared.Stated.the-variants.{Told}
 use Rattle.ledger.specs.declared.Stated.the-variants as state
 use Rattle.ledger.proofs.Reached.{reaches}
-use Rattle.history.proofs.After.{opened-says, closed-says, issued-says}
+use Rattle.ledger.proofs.After.{opened-says, closed-says, issued-says}
 use Rattle.peatrun.specs.Years.{OfListing, InYear, Ran, Slices, ranFor}
 
 -- ---- open, on a book with room for the most cells
@@ -45,7 +47,7 @@ abbrev Listed : Answer → Type 0
 Listed a = a .done ≡ false → OfListing a
 
 module _ (l b : List ℕ) (roomy : bookSize mostCells ≤ length b) where
-  room-listed : checked l .done ≡ true → Listed (roomChecked l b)
+  room-listed : checked l .done ≡ true → Listed (roomChecked current l b)
   unfolding roomChecked
   room-listed done =
       let few = accepted-listing l done .head-right .cells .1 in
@@ -54,30 +56,30 @@ module _ (l b : List ℕ) (roomy : bookSize mostCells ≤ length b) where
 
   -- it is refused by the listing's own numbers alone
   pub opened-listed : Listed (opening l b .answer)
-  unfolding opening fitted after
+  unfolding opening check.fitted after
   opened-listed =
-      by-test Listed (checked l .done) (roomChecked l b) (checked l) room-listed
+      by-test Listed (checked l .done) (roomChecked current l b) (checked l) room-listed
       (λ _. checked-either Listed (λ n k low high h. record { refused = h; least = low; most = high }) (λ h. absurd (false≢true (sym h))) l)
 
-  pub opened-refused : (book′ : List ℕ) (v : Outcome) → leaves (outcome v) book′ ≡ opening l b → (r : Refusal) → v ≡ Refused r → OfListing (outcome v)
+  pub opened-refused : (book′ : List ℕ) (v : Outcome) → leaves (outcome v) book′ [] ≡ opening l b → (r : Refusal) → v ≡ Refused r → OfListing (outcome v)
   opened-refused book′ v e r d =
       let same = ap (λ (m : Left). m .answer) e in
       rw same (opened-listed (ap (λ (a : Answer). a .done) (sym same ∙ ap outcome d)))
 
 -- and where it answered `Done` the book is opened
-pub opened : (l b book′ : List ℕ) (v : Outcome) → leaves (outcome v) book′ ≡ opening l b → v ≡ Done → InYear l book′ 0
+pub opened : (l b book′ : List ℕ) (v : Outcome) → leaves (outcome v) book′ [] ≡ opening l b → v ≡ Done → InYear l book′ 0
 opened l b book′ v e d =
-    let says = opened-says l b (sym (ap (λ (m : Left). m .answer .done) (ap (λ (u : Outcome). leaves (outcome u) book′) (sym d) ∙ e))) in
+    let says = opened-says l b (sym (ap (λ (m : Left). m .answer .done) (ap (λ (u : Outcome). leaves (outcome u) book′ []) (sym d) ∙ e))) in
     rw (ap (λ (m : Left). m .book) e) (record { admits = says .admits; year-is = says .year-is })
 
 -- ---- a year of an opened book
 
-pub opened-cells : (l b : List ℕ) → admittedOnly l b .done ≡ true → cells l ≤ mostCells
-opened-cells l b admits = sound l b 0 0 admits .fitted .accepted .head-right .cells .1
+pub opened-cells : (l b : List ℕ) → admitted l b .done ≡ true → cells l ≤ mostCells
+opened-cells l b admits = sound current l b shaped admits .fitted .accepted .head-right .cells .1
 
-pub opened-long : (l b : List ℕ) → admittedOnly l b .done ≡ true → headWords ≤ length l
+pub opened-long : (l b : List ℕ) → admitted l b .done ≡ true → leastWords ≤ length l
 opened-long l b admits =
-    let a = sound l b 0 0 admits .fitted .accepted in
+    let a = sound current l b shaped admits .fitted .accepted in
     omega (arith, a .long, a .parts .tables, a .parts .cells, a .parts .terms)
 
 module _ (l b : List ℕ) (t : ℕ) (o : InYear l b t) where
@@ -85,37 +87,37 @@ module _ (l b : List ℕ) (t : ℕ) (o : InYear l b t) where
   closable ahead room enough = closable-before l b room (omega arith) (rw (o .year-is) ahead) (o .admits)
 
 -- the closing answered v, and left book′ and lines′
-module _ (l b x : List ℕ) (k : Closable l b (length x)) (v : Outcome) (book′ lines′ : List ℕ) (e : leavesLines (outcome v) book′ lines′ ≡ closing l b x) where
+module _ (l b x : List ℕ) (k : Closable l b (length x)) (v : Outcome) (book′ lines′ : List ℕ) (e : leaves (outcome v) book′ lines′ ≡ closing l b x) where
   closed-done : closing l b x .answer .done ≡ true
   unfolding closing
   closed-done = closes l b (length x) k
 
   pub closed-not-refused : (r : Refusal) → v ≡ Refused r → ⊥
-  closed-not-refused r d = false≢true (ap (λ (a : Answer). a .done) (ap outcome (sym d)) ∙ ap (λ (m : LeftLines). m .answer .done) e ∙ closed-done)
+  closed-not-refused r d = false≢true (ap (λ (a : Answer). a .done) (ap outcome (sym d)) ∙ ap (λ (m : Left). m .answer .done) e ∙ closed-done)
 
   -- the issue after it answered w, and left book″
-  module _ (w : Issued) (book″ : List ℕ) (f : leaves (issuedAs w) book″ ≡ issuing l book′) where
+  module _ (w : Amount) (book″ : List ℕ) (f : leaves (amount w) book″ [] ≡ issuing l book′) where
     issued-done : issuing l book′ .answer .done ≡ true
     unfolding issuing issueAnswer
     issued-done =
-        let admits : admittedOnly l book′ .done ≡ true = rw (ap (λ (m : LeftLines). m .book) e) (closed-says l b x closed-done .admits) in
-        sym (ap (λ (a : Answer). a .done) (after-is _ (admittedOnly l book′) admits))
+        let admits : admitted l book′ .done ≡ true = rw (ap (λ (m : Left). m .book) e) (closed-says l b x closed-done .admits) in
+        sym (ap (λ (a : Answer). a .done) (after-is _ (admitted l book′) admits))
 
-    pub issued-not-refused : (r : Refusal) → w ≡ issue.Refused r → ⊥
-    issued-not-refused r d = false≢true (ap (λ (a : Answer). a .done) (ap issuedAs (sym d)) ∙ ap (λ (m : Left). m .answer .done) f ∙ issued-done)
+    pub issued-not-refused : (r : Refusal) → w ≡ amounts.Refused r → ⊥
+    issued-not-refused r d = false≢true (ap (λ (a : Answer). a .done) (ap amount (sym d)) ∙ ap (λ (m : Left). m .answer .done) f ∙ issued-done)
 
-    pub ran : v ≡ Done → (tonnes : ℕ) → w ≡ Tonnes tonnes → Ran l b x book″ lines′ tonnes
+    pub ran : v ≡ Done → (tonnes : ℕ) → w ≡ amounts.Value tonnes → Ran l b x book″ lines′ tonnes
     ran d tonnes d′ =
-        let same : book′ ≡ closing l b x .book = ap (λ (m : LeftLines). m .book) e in
+        let same : book′ ≡ closing l b x .book = ap (λ (m : Left). m .book) e in
         record {
-          closed = ap (λ (y : List ℕ). leavesLines (accepted 0) y lines′) (sym same) ∙ ap (λ (u : Outcome). leavesLines (outcome u) book′ lines′) (sym d) ∙ e;
-          issued = ap (λ (u : Issued). leaves (issuedAs u) book″) (sym d′) ∙ f ∙ ap (issuing l) same;
+          closed = ap (λ (y : List ℕ). leaves (accepted 0) y lines′) (sym same) ∙ ap (λ (u : Outcome). leaves (outcome u) book′ lines′) (sym d) ∙ e;
+          issued = ap (λ (u : Amount). leaves (amount u) book″ []) (sym d′) ∙ f ∙ ap (issuing l) same;
         }
 
 -- the book after it is in the next year
 pub ran-opened : (l b x book′ lines′ : List ℕ) (tonnes t : ℕ) → InYear l b t → Ran l b x book′ lines′ tonnes → InYear l book′ (t + 1)
 ran-opened l b x book′ lines′ tonnes t o r =
-    let closed = closed-says l b x (sym (ap (λ (m : LeftLines). m .answer .done) (r .closed))) in
+    let closed = closed-says l b x (sym (ap (λ (m : Left). m .answer .done) (r .closed))) in
     let issued = issued-says l (closing l b x .book) (sym (ap (λ (m : Left). m .answer .done) (r .issued))) in
     let same = ap (λ (m : Left). m .book) (r .issued) in
     record { admits = rw same (issued .admits); year-is = rw same (issued .year-is ∙ closed .year-is ∙ ap (λ (y : ℕ). y + 1) (o .year-is)) }
@@ -126,12 +128,12 @@ pub ran-next : (l : List ℕ) (s : Slices) (t : ℕ) (b x book′ lines′ : Lis
 unfolding ranFor
 ran-next l s t b x book′ lines′ tonnes b-is x-is r = (
   rw (add-one, sym b-is, sym x-is) (ap (λ (m : Left). m .book) (r .issued)),
-  rw (add-one, sym b-is, sym x-is) (ap (λ (m : LeftLines). m .lines) (r .closed)),
+  rw (add-one, sym b-is, sym x-is) (ap (λ (m : Left). m .output) (r .closed)),
 )
 
 -- ---- a statement of a cell of an opened book, which answered v
 
-module _ (l b : List ℕ) (i : ℕ) (admits : admittedOnly l b .done ≡ true) (lt : i < cells l) (v : Stated) (e : statedAs v ≡ stating l b i) where
+module _ (l b : List ℕ) (i : ℕ) (admits : admitted l b .done ≡ true) (lt : i < cells l) (v : Stated) (e : statedAs v ≡ stating l b i) where
   pub stated-not-refused : (r : Refusal) → v ≡ state.Refused r → ⊥
   unfolding stating
   stated-not-refused r d = false≢true (ap (λ (m : Telling). m .answer .done) (ap statedAs (sym d) ∙ e) ∙ reaches l b i admits lt)

@@ -1,24 +1,24 @@
 -- Document 01, "Forecast, readings, discount, program": what peatrun works out. It closes every year and issues after each. What it prints
 -- is tested, and not stated here.
-use Prim.Native.Nat.{ℕ, zero, suc, _+_, _*_, _≤_}
+use Prim.Native.Nat.{ℕ, zero, suc, _*_, _≤_}
 use mathlib.Core.Path.{_≡_}
 use mathlib.Core.Bool.{true, false}
-use mathlib.Core.List.{List}
+use mathlib.Core.List.{List, []}
 use lib.ListN.{length}
 use Rattle.words.specs.Answers.{Answer, accepted}
+use Rattle.words.specs.Left.{leaves}
 use Rattle.words.specs.Refusals.{tooFewWords, termNotAbove}
-use Rattle.fields.specs.Words.{mostCells, mostStrata, mostHorizon}
-use Rattle.listing.specs.Layout.{headWords, cellWords, cells, cell}
+use Rattle.words.specs.Sums.{sumBelow}
+use Rattle.listing.specs.Layout.{mostWords, cells, cell}
 use Rattle.listing.specs.Check.{checked}
 use Rattle.year.specs.Year.{remaining}
-use Rattle.book.specs.Layout.{year, entry}
-use Rattle.book.specs.Check.{admittedOnly}
-use Rattle.balance.specs.Balance.{overCells}
-use Rattle.ledger.specs.Calls.{leaves, leavesLines, closing, issuing}
+use Rattle.book.specs.Current.{entry, admitted}
+use Rattle.book.specs.Layout.{year}
+use Rattle.ledger.specs.Calls.{closing, issuing}
 
 -- the bytes of the longest listing, 11,256
 abbrev pub mostBytes : ℕ
-mostBytes = 4 * (headWords + mostStrata * mostHorizon + cellWords * mostCells + 7 * mostHorizon)
+mostBytes = 4 * mostWords
 
 -- so what is `too long` would be refused as a listing too; proofs/Longest.antt proves it
 abbrev pub Longest : Type 0
@@ -32,13 +32,13 @@ pub record OfListing (a : Answer) : Type 0 where
 
 -- book b of listing l passes the tests 1 to 8, and is in year t
 pub record InYear (l b : List ℕ) (t : ℕ) : Type 0 where
-  pub admits : admittedOnly l b .done ≡ true
+  pub admits : admitted l b .done ≡ true
   pub year-is : year b ≡ t
 
 -- a year of book b and lines buffer x: the closing and the issue after it are accepted and leave book′ and lines′; the issue answers the tonnes
 pub record Ran (l b x book′ lines′ : List ℕ) (tonnes : ℕ) : Type 0 where
-  pub closed : leavesLines (accepted 0) (closing l b x .book) lines′ ≡ closing l b x
-  pub issued : leaves (accepted tonnes) book′ ≡ issuing l (closing l b x .book)
+  pub closed : leaves (accepted 0) (closing l b x .book) lines′ ≡ closing l b x
+  pub issued : leaves (accepted tonnes) book′ [] ≡ issuing l (closing l b x .book)
 
 -- book and lines buffer
 pub record Slices : Type 0 where
@@ -51,8 +51,8 @@ ranFor l s zero = s
 ranFor l s (suc t) =
     let before = ranFor l s t in
     let closed = closing l (before .book) (before .lines) in
-    record { book = issuing l (closed .book) .book; lines = closed .lines }
+    record { book = issuing l (closed .book) .book; lines = closed .output }
 
 -- mm remaining, over all cells
 unfoldable pub left : List ℕ → List ℕ → ℕ
-left l b = overCells (λ i. remaining (cell l i) (entry b i)) (cells l)
+left l b = sumBelow (λ i. remaining (cell l i) (entry b i)) (cells l)

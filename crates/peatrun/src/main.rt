@@ -9,20 +9,19 @@ ghost use Rattle.words.specs.Answers.{outcome};
 ghost use Rattle.words.specs.Refusals.{tooFewWords, termNotAbove};
 ghost use Rattle.listing.specs.Layout.{cells, horizon, cell};
 ghost use Rattle.year.specs.Year.{remaining};
-ghost use Rattle.book.specs.Layout.{lineWords, entry};
-ghost use Rattle.book.specs.Check.{admittedOnly};
+ghost use Rattle.book.specs.Current.{entry, admitted};
+ghost use Rattle.book.specs.Layout.{lineWords};
 ghost use Rattle.closing.specs.Closable.{Closable};
 ghost use Rattle.peatrun.specs.Years.{mostBytes, OfListing, InYear, Ran, ranFor, left};
-use book::BOOK_HEAD;
-use book::ENTRY_WORDS;
+use book::BOOK;
 use book::LINE_WORDS;
 use fields::MOST_CELLS;
-use ledger::Issued;
 use ledger::Stated;
 use libc::STDERR_FILENO;
 use libc::STDIN_FILENO;
 use libc::STDOUT_FILENO;
 use listing::MOST_WORDS;
+use words::Amount;
 use words::Outcome;
 use words::Refusal;
 
@@ -30,7 +29,7 @@ use words::Refusal;
 // cells.
 const MOST_BYTES: usize = 4 * MOST_WORDS;
 
-const MOST_BOOK_WORDS: usize = BOOK_HEAD + ENTRY_WORDS * MOST_CELLS as usize;
+const MOST_BOOK_WORDS: usize = BOOK.head + BOOK.entry * MOST_CELLS as usize;
 
 const MOST_LINE_WORDS: usize = LINE_WORDS * MOST_CELLS as usize;
 
@@ -106,7 +105,7 @@ fn run_year(listing: &[u32], book: &mut [u32], lines: &mut [u32]) -> u32
         return 0;
     };
     let issued = ledger::issue(listing, book);
-    let Issued::Tonnes(tonnes) = issued else {
+    let Amount::Value(tonnes) = issued else {
         return 0;
     };
     tonnes
@@ -115,7 +114,7 @@ fn run_year(listing: &[u32], book: &mut [u32], lines: &mut [u32]) -> u32
 // Every year of a book in year 0, unless a line cannot be written.
 fn run_years(listing: &[u32], book: &mut [u32], lines: &mut [u32]) -> bool
     requires { ⌜ InYear (now listing) (now book) 0 × (length (now lines) ≡ lineWords * cells (now listing)) ⌝ }
-    ensures { λ _. ⌜ admittedOnly (now (listing .entry)) (now (book .exit)) .done ≡ true ⌝ }
+    ensures { λ _. ⌜ admitted (now (listing .entry)) (now (book .exit)) .done ≡ true ⌝ }
     ensures { λ r. ⌜ (r ≡ true → now (book .exit) ≡ ranFor (now (listing .entry)) (record { book = now (book .entry); lines = now (lines .entry) }) (horizon (now (listing .entry))) .book) ⌝ }
 {
     let horizon = listing::head(listing).horizon;
@@ -133,7 +132,7 @@ fn run_years(listing: &[u32], book: &mut [u32], lines: &mut [u32]) -> bool
 // What remains of cell `i`, by its statement. The book passes the tests and has the cell, so that
 // the statement is not refused.
 fn remaining(listing: &[u32], book: &[u32], i: usize) -> u32
-    requires { ⌜ (admittedOnly (now listing) (now book) .done ≡ true) × (i < cells (now listing)) ⌝ }
+    requires { ⌜ (admitted (now listing) (now book) .done ≡ true) × (i < cells (now listing)) ⌝ }
     ensures { λ r. ⌜ r ≡ remaining (cell (now (listing .entry)) i) (entry (now (book .entry)) i) ⌝ }
 {
     let stated = ledger::statement(listing, book, i);
@@ -145,7 +144,7 @@ fn remaining(listing: &[u32], book: &[u32], i: usize) -> u32
 
 // The mm that remain, over all cells.
 fn left(listing: &[u32], book: &[u32]) -> u64
-    requires { ⌜ admittedOnly (now listing) (now book) .done ≡ true ⌝ }
+    requires { ⌜ admitted (now listing) (now book) .done ≡ true ⌝ }
     ensures { λ r. ⌜ r ≡ left (now (listing .entry)) (now (book .entry)) ⌝ }
 {
     let cells = listing::head(listing).cells as usize;
@@ -159,7 +158,7 @@ fn left(listing: &[u32], book: &[u32]) -> u64
 }
 
 fn say_left(listing: &[u32], book: &[u32]) -> bool
-    requires { ⌜ admittedOnly (now listing) (now book) .done ≡ true ⌝ }
+    requires { ⌜ admitted (now listing) (now book) .done ≡ true ⌝ }
 {
     say(b"left ") && say_number(left(listing, book), b"\n")
 }

@@ -1,30 +1,20 @@
--- What `mm` means, with no division: the millimetres of x are the one integer n with n ≤ 1000 * x < n + 1. Assumes nothing.
-use mathlib.Core.Path.{_≡_, refl, sym, ap, subst}
+-- The theorem `EveryReading`: the millimetres of x are the one integer n with n ≤ 1000 * x < n + 1. Assumes nothing.
+use mathlib.Core.Path.{_≡_, refl, sym, ap, subst, _∙_}
 use Prim.Native.Nat.{ℕ, zero, suc, _*_, _/_, _≤_, _<_}
 use native.Mathlib.Nat.{le-div-iff-mul-le, div-lt-iff-lt-mul, div-eq-of-lt-le, le-refl}
 use native.Mathlib.Numerals.{add-one}
 use native.Mathlib.Omega.{arith}
 use mathlib.Core.Bool.{true}
 use lib.IntN.{ℤ, pos, negsuc, negℤ, sucℤ, _*ℤ_}
-use lib.Signed.{leZ, ltZ, shrZ, _≤ℤ_, _<ℤ_}
-use lib.Dec.{T, leb→le, le→leb, ltb→lt, lt→ltb}
-use lib.Ieee.{Float}
-use Rattle.reading.specs.Metres.{over, under, mm}
+use lib.Signed.{leZ, ltZ, shrZ}
+use lib.Dec.{T, leb, leb→le, le→leb, leb·zero, ltb→lt, lt→ltb}
+use Rattle.reading.specs.Metres.{over, under, mm, EveryReading}
 use Rattle.reading.proofs.Order.{neg-neg, times, under-pos}
 
--- n ≤ 1000 * x < n + 1, multiplied by the denominator
-pub record FloorOf (x : Float) (n : ℤ) : Type 0 where
-  pub not-above : (n *ℤ pos (under x)) ≤ℤ (pos 1000 *ℤ over x)
-  pub next-above : (pos 1000 *ℤ over x) <ℤ (sucℤ n *ℤ pos (under x))
-
--- -a - 1 < -b where b ≤ a, and back
-neg-lt : (a b : ℕ) → b ≤ a → T (ltZ (negsuc a) (negℤ (pos b)))
-neg-lt a zero h = tt
-neg-lt a (suc b) h = lt→ltb b a h
-
-lt-neg : (a b : ℕ) → T (ltZ (negsuc a) (negℤ (pos b))) → b ≤ a
-lt-neg a zero h = omega arith
-lt-neg a (suc b) h = ltb→lt b a h
+-- -a - 1 < -b is b ≤ a
+neg-lt : (a b : ℕ) → ltZ (negsuc a) (negℤ (pos b)) ≡ leb b a
+neg-lt a zero = sym (leb·zero a)
+neg-lt a (suc b) = refl
 
 -- no natural number is below -b
 pos-lt-neg : (a b : ℕ) → T (ltZ (pos a) (negℤ (pos b))) → ⊥
@@ -35,6 +25,9 @@ pos-lt-neg a (suc b) h = h
 next : (k d : ℕ) → sucℤ (negsuc k) *ℤ pos d ≡ negℤ (pos (k * d))
 next zero d = times true zero d
 next (suc k) d = refl
+
+below-next : (a k d : ℕ) → ltZ (negsuc a) (sucℤ (negsuc k) *ℤ pos d) ≡ leb (k * d) a
+below-next a k d = ap (ltZ (negsuc a)) (next k d) ∙ neg-lt a (k * d)
 
 module _ (d : ℕ) (D : 0 < d) where
   div-lo : (a : ℕ) → a / d * d ≤ a
@@ -49,7 +42,7 @@ module _ (d : ℕ) (D : 0 < d) where
 
   hi : (a : ℤ) → T (ltZ a (sucℤ (shrZ a d) *ℤ pos d))
   hi (pos a) = lt→ltb a (suc (a / d) * d) (div-hi a)
-  hi (negsuc a) = subst (λ (z : ℤ). T (ltZ (negsuc a) z)) (sym (next (a / d) d)) (neg-lt a (a / d * d) (div-lo a))
+  hi (negsuc a) = subst T (sym (below-next a (a / d) d)) (le→leb (a / d * d) a (div-lo a))
 
   quotient : (a k : ℕ) → k * d ≤ a → a < suc k * d → k ≡ a / d
   quotient a k h g = sym (div-eq-of-lt-le d h (subst (λ (i : ℕ). a < i * d) (sym (add-one k)) g))
@@ -61,15 +54,16 @@ module _ (d : ℕ) (D : 0 < d) where
   only (negsuc a) (negsuc k) h g =
       ap negsuc
       (quotient a k
-      (lt-neg a (k * d) (subst (λ (z : ℤ). T (ltZ (negsuc a) z)) (next k d) g))
+      (leb→le (k * d) a (subst T (below-next a k d) g))
       (leb→le (suc a) (suc k * d) (subst T (neg-neg (suc k * d) (suc a)) h)))
 
-pub mm-is : (x : Float) → FloorOf x (mm x)
+pub every-reading : EveryReading
 unfolding mm
-mm-is x =
-    let a = pos 1000 *ℤ over x in
-    record { not-above = record { le = lo (under x) (under-pos x) a }; next-above = record { lt = hi (under x) (under-pos x) a } }
-
-pub mm-only : (x : Float) (n : ℤ) → FloorOf x n → n ≡ mm x
-unfolding mm
-mm-only x n f = only (under x) (under-pos x) (pos 1000 *ℤ over x) n (f .not-above .le) (f .next-above .lt)
+every-reading =
+    record {
+      denominator = λ x _. under-pos x;
+      floor = λ x _.
+          let a = pos 1000 *ℤ over x in
+          record { not-above = record { le = lo (under x) (under-pos x) a }; next-above = record { lt = hi (under x) (under-pos x) a } };
+      only = λ x n _ f. only (under x) (under-pos x) (pos 1000 *ℤ over x) n (f .not-above .le) (f .next-above .lt);
+    }

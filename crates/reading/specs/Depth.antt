@@ -9,13 +9,6 @@ use Rattle.words.specs.Answers.{Answer, accepted, refused, need}
 use Rattle.reading.specs.Metres.{isFinite, inCore, inLevel, mm}
 use Rattle.reading.specs.declared.Reading.{Reading}
 use Rattle.reading.specs.declared.Reading.the-variants.{Core, Levels, Missing}
-use Rattle.reading.specs.declared.Measured.{Measured}
-use Rattle.reading.specs.declared.Measured.the-variants.{Millimetres, Refused}
-
--- the cases of what is measured, in the paper's numbers
-abbrev pub measured : Measured → Answer
-measured (Millimetres m) = accepted m
-measured (Refused r) = refused (r .number) (r .place)
 
 -- a core depth: 16, then 17, at place 0
 unfoldable pub core : Float → Answer

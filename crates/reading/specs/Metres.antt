@@ -3,8 +3,8 @@
 use Prim.Native.Nat.{ℕ, _*_, _^_, _<_}
 use mathlib.Core.Path.{_≡_}
 use mathlib.Core.Bool.{Bool, true, false, cond, _&&_}
-use lib.IntN.{ℤ, pos, negℤ, natAbs, _*ℤ_}
-use lib.Signed.{leZ, shrZ}
+use lib.IntN.{ℤ, pos, negℤ, sucℤ, natAbs, _*ℤ_}
+use lib.Signed.{leZ, shrZ, _≤ℤ_, _<ℤ_}
 use lib.Ieee.{Float, nan, inf, fin, up, down}
 
 -- "not finite": a NaN or an infinity
@@ -36,10 +36,22 @@ inCore x = between (pos 0) (pos 20) x
 unfoldable pub inLevel : Float → Bool
 inLevel x = between (negℤ (pos 100)) (pos 3000) x
 
--- "its mm is the greatest whole number not above 1,000 times its exact value, also below zero": `shrZ` rounds down.
--- That it is this number is proved in proofs/Law.antt
+-- "its mm is the greatest whole number not above 1,000 times its exact value, also below zero": `shrZ` rounds down
 unfoldable pub mm : Float → ℤ
 mm x = shrZ (pos 1000 *ℤ over x) (under x)
+
+-- ---- that `mm` is this number
+
+-- n ≤ 1,000 × x < n + 1, with the denominator multiplied out; `sucℤ n` is n + 1
+pub record Floor (x : Float) (n : ℤ) : Type 0 where
+  pub not-above : (n *ℤ pos (under x)) ≤ℤ (pos 1000 *ℤ over x)
+  pub next-above : (pos 1000 *ℤ over x) <ℤ (sucℤ n *ℤ pos (under x))
+
+-- the mm of every finite number are such an n, and the only one; proofs/Law.antt proves it
+pub record EveryReading : Type 0 where
+  pub denominator : (x : Float) → isFinite x ≡ true → 0 < under x
+  pub floor : (x : Float) → isFinite x ≡ true → Floor x (mm x)
+  pub only : (x : Float) (n : ℤ) → isFinite x ≡ true → Floor x n → n ≡ mm x
 
 -- ---- for contracts of private functions alone
 -- x is finite, and low and high are whole numbers

@@ -1,26 +1,22 @@
 // A depth in whole millimetres from a reading in metres, by the exact value of its binary32.
+use words::Amount;
 use words::NOT_FINITE;
 use words::OUT_OF_RANGE;
 use words::READING_MISSING;
-use words::Refusal;
+use words::refuse_amount;
 ghost use mathlib.Core.Path.{_≡_};
 ghost use mathlib.Core.Bool.{true};
 ghost use Prim.Native.Nat.{_/_, _^_};
 ghost use lib.IntN.{pos, _+ℤ_};
-ghost use Rattle.words.specs.Answers.{refused};
+ghost use Rattle.words.specs.Answers.{amount};
 ghost use Rattle.reading.specs.Metres.{isFinite, over, between, inLevel, mm, Ends, Parted};
-ghost use Rattle.reading.specs.Depth.{measured, core, levels, depth};
+ghost use Rattle.reading.specs.Depth.{core, levels, depth};
 ghost use Rattle.reading.specs.declared.Reading.the-variants.{Missing};
 
 pub enum Reading {
     Core(f32),
     Levels(f32, f32),
     Missing,
-}
-
-pub enum Measured {
-    Millimetres(u32),
-    Refused(Refusal),
 }
 
 // A float without its sign is exactly mantissa / 2 ^ places.
@@ -30,8 +26,8 @@ struct Parts {
 }
 
 // The depth that a reading gives, or why it gives none.
-pub fn depth(reading: Reading) -> Measured
-    ensures { λ r. ⌜ measured r ≡ depth reading ⌝ }
+pub fn depth(reading: Reading) -> Amount
+    ensures { λ r. ⌜ amount r ≡ depth reading ⌝ }
 {
     match reading {
         Reading::Core(x) => core(x),
@@ -41,58 +37,52 @@ pub fn depth(reading: Reading) -> Measured
 }
 
 // The answer to a reading that is missing.
-pub fn missing() -> Measured
-    ensures { λ r. ⌜ measured r ≡ depth Missing ⌝ }
+pub fn missing() -> Amount
+    ensures { λ r. ⌜ amount r ≡ depth Missing ⌝ }
 {
-    refuse(READING_MISSING, 0)
+    refuse_amount(READING_MISSING, 0)
 }
 
 // The depth of a core. It is a level as well: its millimetres too are those above -100,000, less
 // 100,000.
-pub fn core(x: f32) -> Measured
-    ensures { λ r. ⌜ measured r ≡ core x ⌝ }
+pub fn core(x: f32) -> Amount
+    ensures { λ r. ⌜ amount r ≡ core x ⌝ }
 {
     if !finite(x) {
-        return refuse(NOT_FINITE, 0);
+        return refuse_amount(NOT_FINITE, 0);
     }
     if !in_range(x, 0.0, 20.0) {
-        return refuse(OUT_OF_RANGE, 0);
+        return refuse_amount(OUT_OF_RANGE, 0);
     }
-    Measured::Millimetres(mm_above_lowest(x) - 100_000)
+    Amount::Value(mm_above_lowest(x) - 100_000)
 }
 
 // The depth between a pair of levels. A number that is not finite is refused before a level that is
 // out of range, whichever it is.
-pub fn levels(surface: f32, base: f32) -> Measured
-    ensures { λ r. ⌜ measured r ≡ levels surface base ⌝ }
+pub fn levels(surface: f32, base: f32) -> Amount
+    ensures { λ r. ⌜ amount r ≡ levels surface base ⌝ }
 {
     if !finite(surface) {
-        return refuse(NOT_FINITE, 0);
+        return refuse_amount(NOT_FINITE, 0);
     }
     if !finite(base) {
-        return refuse(NOT_FINITE, 1);
+        return refuse_amount(NOT_FINITE, 1);
     }
     if !is_level(surface) {
-        return refuse(OUT_OF_RANGE, 0);
+        return refuse_amount(OUT_OF_RANGE, 0);
     }
     if !is_level(base) {
-        return refuse(OUT_OF_RANGE, 1);
+        return refuse_amount(OUT_OF_RANGE, 1);
     }
     let s = mm_above_lowest(surface);
     let b = mm_above_lowest(base);
     if s < b {
-        return refuse(OUT_OF_RANGE, 2);
+        return refuse_amount(OUT_OF_RANGE, 2);
     }
     if 20_000 < s - b {
-        return refuse(OUT_OF_RANGE, 2);
+        return refuse_amount(OUT_OF_RANGE, 2);
     }
-    Measured::Millimetres(s - b)
-}
-
-fn refuse(number: u32, place: usize) -> Measured
-    ensures { λ r. ⌜ measured r ≡ refused number place ⌝ }
-{
-    Measured::Refused(Refusal { number, place })
+    Amount::Value(s - b)
 }
 
 // Neither a NaN nor an infinity: strictly between the two infinities.

@@ -17,7 +17,7 @@ use Rattle.words.proofs.Signed.{by-test, size-add, size-part, atLeast0-add, cas
 use Rattle.fields.specs.Fields.{yearOf, termOf, tonnesOf, yearlyTerm}
 use Rattle.fields.specs.declared.YearlyTerm.{YearlyTerm}
 use Rattle.listing.specs.Layout.{starts}
-use Rattle.terms.specs.Terms.{counted, total, termsToDate}
+use Rattle.terms.specs.Terms.{counted, total, termsToDate, mostTerms, mostTermsBelow}
 use Rattle.listing.specs.Accepted.{Accepted}
 use Rattle.listing.proofs.Accepted.{terms-few}
 
@@ -66,14 +66,14 @@ unfolding total
 total-bound size none add f m h [] = omega arith
 total-bound size none add f m h (w ∷ ws) = omega (arith, add (f w) (total f ws), h w, total-bound size none add f m h ws)
 
-from-size : (l : List ℕ) (start year last : ℕ) → length l ≤ start + 700 → natAbs (total (counted year last) (drop start l)) ≤ 45875200
+from-size : (l : List ℕ) (start year last : ℕ) → length l ≤ start + 700 → natAbs (total (counted year last) (drop start l)) ≤ mostTermsBelow
 from-size l start year last h = omega (arith, total-bound natAbs refl size-add (counted year last) 65536 (counted-size year last) (drop start l), length-drop start l)
 
 module _ (l : List ℕ) (year last : ℕ) (a : Accepted l) where
-  pub terms-size : natAbs (termsToDate l year last) ≤ 45875200
+  pub terms-size : natAbs (termsToDate l year last) ≤ mostTermsBelow
   terms-size = from-size l (starts l .terms) year last (terms-few l a)
 
-  pub terms-most : atLeast0 (termsToDate l year last) ≤ 45874500
+  pub terms-most : atLeast0 (termsToDate l year last) ≤ mostTerms
   unfolding atLeast0
   terms-most =
       omega (arith, total-bound atLeast0 refl atLeast0-add (counted year last) 65535 (counted-most year last) (drop (starts l .terms) l), length-drop (starts l .terms) l, terms-few l a)

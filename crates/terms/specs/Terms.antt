@@ -21,3 +21,10 @@ total f (w ∷ ws) = f w +ℤ total f ws
 -- an absent term is 0
 abbrev pub termsToDate : List ℕ → ℕ → ℕ → ℤ
 termsToDate l year last = total (counted year last) (drop (starts l .terms) l)
+
+-- the most that they come to, above zero and below it: 7 terms of 100 years, each from −65,536 to 65,535
+abbrev pub mostTerms : ℕ
+mostTerms = 45874500
+
+abbrev pub mostTermsBelow : ℕ
+mostTermsBelow = 45875200

@@ -5,14 +5,14 @@ use Prim.Native.Nat.{ℕ, _<_, _≤_}
 use native.Mathlib.Nat.{le-refl}
 use native.Mathlib.Omega.{arith}
 use lib.Dec.{ltb, leb}
-use borrow.Author.Tests.{lt-ltb, le-ltb, lt-leb, le-leb, ltb-false, leb-true, not-true, not-false}
+use borrow.Author.Tests.{lt-ltb, le-ltb, lt-leb, le-leb, ltb-true, ltb-false, leb-true, not-true, not-false}
 use Rattle.words.specs.Bits.{within}
 use Rattle.words.specs.Search.{firstWrong}
 use Rattle.words.specs.Answers.{Answer, refused, outcome, need, unfound, every, after}
 use Rattle.words.specs.declared.Refusal.{Refusal}
 use Rattle.words.specs.declared.Outcome.{Outcome}
 use Rattle.words.specs.declared.Outcome.the-variants.{Done, Refused}
-use Rattle.words.proofs.Meaning.{right-before, first-only}
+use Rattle.words.proofs.Meaning.{right-before, first-only, none-either}
 use Rattle.words.proofs.Signed.{by-test}
 
 -- ---- forwards: v is what a function returns, as an answer
@@ -132,3 +132,43 @@ module _ (P : Answer → Type 0) where
   pub after-either : (before next : Answer) → P before → P next → P (after before next)
   unfolding after
   after-either before next b h = by-test P (before .done) next before (λ _. h) (λ _. b)
+
+-- ---- two chains of tests that agree: what their endings have in common, their answers have
+
+pub cond-both : {A : Type 0} (R : A → A → Type 0) (c c′ : Bool) (x y x′ y′ : A) → c ≡ c′ → (c ≡ true → R x x′) → (c ≡ false → R y y′) → R (cond c x y) (cond c′ x′ y′)
+cond-both R true true x y x′ y′ e f g = f refl
+cond-both R true false x y x′ y′ e f g = absurd (false≢true (sym e))
+cond-both R false true x y x′ y′ e f g = absurd (false≢true e)
+cond-both R false false x y x′ y′ e f g = g refl
+
+ltb-same : (x y end : ℕ) → (end ≤ y → end ≤ x) → (end ≤ x → end ≤ y) → ltb x end ≡ ltb y end
+ltb-same x y end f g = case (ltb x end) (ltb y end) refl refl
+  where
+    case : (b c : Bool) → ltb x end ≡ b → ltb y end ≡ c → b ≡ c
+    case true true p q = refl
+    case true false p q = let less = ltb-true x end p in let le = f (ltb-false y end q) in absurd (omega arith)
+    case false true p q = let less = ltb-true y end q in let le = g (ltb-false x end p) in absurd (omega arith)
+    case false false p q = refl
+
+module _ (R : Answer → Answer → Type 0) where
+  pub need-both : (ok ok′ : Bool) (n k k′ : ℕ) (next next′ : Answer) → ok ≡ ok′ → R (refused n k) (refused n k′) → (ok ≡ true → R next next′) → R (need ok n k next) (need ok′ n k′ next′)
+  unfolding need
+  need-both ok ok′ n k k′ next next′ e r f = cond-both R ok ok′ next _ next′ _ e f (λ _. r)
+
+  pub after-both : (before before′ next next′ : Answer) → before .done ≡ before′ .done → R before before′ → (before .done ≡ true → R next next′) → R (after before next) (after before′ next′)
+  unfolding after
+  after-both before before′ next next′ e r f = cond-both R (before .done) (before′ .done) next before next′ before′ e f (λ _. r)
+
+  -- two searches of one range, where all is right by the one test exactly if it is by the other
+  pub every-both : (n : ℕ) (right right′ : ℕ → Bool) (from to : ℕ) (next next′ : Answer) →
+      (((k : ℕ) → from ≤ k → k < to → right k ≡ true) → (k : ℕ) → from ≤ k → k < to → right′ k ≡ true) →
+      (((k : ℕ) → from ≤ k → k < to → right′ k ≡ true) → (k : ℕ) → from ≤ k → k < to → right k ≡ true) →
+      R (refused n (firstWrong right from to)) (refused n (firstWrong right′ from to)) →
+      (((k : ℕ) → from ≤ k → k < to → right k ≡ true) → R next next′) →
+      R (every n right from to next) (every n right′ from to next′)
+  unfolding unfound
+  every-both n right right′ from to next next′ all back r f =
+      cond-both R (ltb (firstWrong right from to) to) (ltb (firstWrong right′ from to) to) _ next _ next′
+      (ltb-same _ _ to (none-either right′ right from to back) (none-either right right′ from to all))
+      (λ _. r)
+      (λ e. f (λ k lo hi. right-before right from to k lo (omega (arith, ltb-false (firstWrong right from to) to e))))

@@ -2,7 +2,7 @@
 -- Each law has the position and the width as parameters. Assumes nothing.
 use mathlib.Core.Path.{_≡_, sym, ap, _∙_}
 use Prim.Native.Nat.{ℕ, _+_, _-_, _*_, _%_, _/_, _^_, _<_, _≤_}
-use native.Mathlib.Nat.{one-mul, mod-eq-of-lt, mul-add-mod-self-right, mul-assoc, mod-lt}
+use native.Mathlib.Nat.{one-mul, div-one, div-eq-of-lt, zero-mod, mod-eq-of-lt, mul-add-mod-self-right, mul-assoc, mod-lt}
 use native.Mathlib.Omega.{arith}
 use lib.Pow.{shl-exact, high, pow-pos, pow-add}
 use lib.Pow.{field as field-pow}
@@ -20,6 +20,16 @@ field-law w p n h = ap (λ (m : ℕ). bitAnd (w / 2 ^ p) (m - 1)) (one-shl n h) 
 -- a field of n bits is below 2 ^ n
 pub field-below : (w p n : ℕ) → field w p n < 2 ^ n
 field-below w p n = mod-lt (w / 2 ^ p) (pow-pos n)
+
+pub field-most : (w p n : ℕ) → field w p n ≤ 2 ^ n - 1
+field-most w p n = omega (arith, field-below w p n)
+
+-- a number of n bits is its own lowest field, and has nothing above
+pub field-own : (b n : ℕ) → b < 2 ^ n → field b 0 n ≡ b
+field-own b n h = rw div-one (mod-eq-of-lt h)
+
+pub field-above : (b p n : ℕ) → b < 2 ^ p → field b p n ≡ 0
+field-above b p n h = rw (div-eq-of-lt h) (zero-mod (2 ^ n))
 
 -- (a << k) | b, for an a of j bits and a b of k bits
 pub join-law : (a b j k : ℕ) → j + k ≤ 32 → a < 2 ^ j → b < 2 ^ k → bitOr ((a * 2 ^ k) % 2 ^ 32) b ≡ a * 2 ^ k + b

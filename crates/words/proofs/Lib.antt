@@ -5,3 +5,5 @@ pub mod Steps
 pub mod Meaning
 pub mod Answers
 pub mod Blocks
+pub mod Sums
+pub mod Left

@@ -4,20 +4,26 @@ use mathlib.Core.Path.{_≡_, refl, sym, ap, ap₂, _∙_}
 use mathlib.Core.Bool.{Bool, true, false, cond, true≢false}
 use Prim.Native.Nat.{ℕ, zero, suc, _+_, _-_, _^_, _≤_, _<_}
 use native.Mathlib.Omega.{arith}
-use lib.Dec.{T, ltb}
+use lib.Dec.{T, ltb, eqb}
 use lib.IntN.{ℤ, pos, negsuc, negℤ, subℕ, natAbs, _+ℤ_, _-ℤ_, +ℤ-negℤ-cancel}
 use lib.Signed.{mag, ltZ, nonNeg}
 use lib.Pow.{pow-add, pow-mono}
 use mir.Syntax.{Width, w32}
 use mir.Val.{Fits, SFits, bits, hbits, toZ, ofZ}
 use mir.Facts.{toZ-ofZ, toZ-pos}
-use borrow.Author.Tests.{ltb-true, ltb-false, lt-ltb, le-ltb}
+use borrow.Author.Tests.{ltb-true, ltb-false, lt-ltb, le-ltb, eqb-true, eqb-false}
 use Rattle.words.specs.Bits.{twosComplement, atLeast0}
 
 -- by the two cases of a test, each with its equation
 pub by-test {ℓ κ} : {A : Type ℓ} (P : A → Type κ) (c : Bool) (x y : A) → (c ≡ true → P x) → (c ≡ false → P y) → P (cond c x y)
 by-test P true x y f g = f refl
 by-test P false x y f g = g refl
+
+pub by-less : {C : Type 0} (a b : ℕ) → (a < b → C) → (b ≤ a → C) → C
+by-less {C} a b less more = by-test (λ (s : Bool). C) (ltb a b) true false (λ e. less (ltb-true a b e)) (λ e. more (ltb-false a b e))
+
+pub by-equal : {C : Type 0} (a b : ℕ) → (a ≡ b → C) → ((a ≡ b → ⊥) → C) → C
+by-equal {C} a b same other = by-test (λ (s : Bool). C) (eqb a b) true false (λ e. same (eqb-true a b e)) (λ e. other (eqb-false a b e))
 
 -- ---- bounds: natAbs
 size-sub : (a b : ℕ) → natAbs (subℕ a b) ≡ (a - b) + (b - a)

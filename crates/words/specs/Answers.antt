@@ -5,6 +5,8 @@ use lib.Dec.{ltb}
 use Rattle.words.specs.Search.{firstWrong}
 use Rattle.words.specs.declared.Outcome.{Outcome}
 use Rattle.words.specs.declared.Outcome.the-variants.{Done, Refused}
+use Rattle.words.specs.declared.Amount.{Amount}
+use Rattle.words.specs.declared.Amount.the-variants as amounts
 
 -- a call that is accepted (`done`) answers number 0 at place 0 and its value; a refused one its number and place and the value 0
 pub record Answer : Type 0 where
@@ -23,6 +25,11 @@ refused n k = record { done = false; number = n; place = k; value = 0 }
 abbrev pub outcome : Outcome → Answer
 outcome Done = accepted 0
 outcome (Refused r) = refused (r .number) (r .place)
+
+-- the cases of an amount
+abbrev pub amount : Amount → Answer
+amount (amounts.Value v) = accepted v
+amount (amounts.Refused r) = refused (r .number) (r .place)
 
 -- refusal n at place k unless the test holds, and then `next`
 unfoldable pub need : Bool → ℕ → ℕ → Answer → Answer

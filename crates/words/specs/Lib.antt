@@ -4,3 +4,5 @@ pub mod Search
 pub mod Refusals
 pub mod Answers
 pub mod Blocks
+pub mod Sums
+pub mod Left

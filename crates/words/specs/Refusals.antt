@@ -1,19 +1,20 @@
--- Document 01, "Where a call stops": the number of each refusal, in the table's order, and its place.
+-- Document 01, "Where a call stops": the number of each refusal, in the table's order, and its place. When each is given is said in the crate
+-- that tests it.
 use Prim.Native.Nat.{ℕ}
 
--- listing: fewer than 2 words; place 0
+-- listing: too few words for a head; place 0
 abbrev pub tooFewWords : ℕ
 tooFewWords = 1
 
--- word 0 or 1: kind, zero bits or range; its index
+-- a word of the head that is wrong; its index
 abbrev pub headWord : ℕ
 headWord = 2
 
--- fewer words than strata × horizon + 2 × cells + 2; its length
+-- too short for its head; its length
 abbrev pub listingShort : ℕ
 listingShort = 3
 
--- later word: kind, zero bits or range; its index
+-- a later word that is wrong; its index
 abbrev pub laterWord : ℕ
 laterWord = 4
 
@@ -21,15 +22,15 @@ laterWord = 4
 abbrev pub termNotAbove : ℕ
 termNotAbove = 5
 
--- buffers: book below 2 + 3 × cells words; its length
+-- buffers: book too short; its length
 abbrev pub bookShort : ℕ
 bookShort = 6
 
--- lines below 3 × cells words (close); its length
+-- lines too short (close); its length
 abbrev pub linesShort : ℕ
 linesShort = 7
 
--- book: word wrong; its index
+-- book: a word that is wrong; its index
 abbrev pub bookWord : ℕ
 bookWord = 8
 
@@ -45,19 +46,19 @@ noSuchCell = 10
 abbrev pub cellWithdrawn : ℕ
 cellWithdrawn = 11
 
--- plan year from 1 to current (replan); 0
+-- cell converted already (replan); 0
 abbrev pub cellConverted : ℕ
 cellConverted = 12
 
--- new year neither 0 nor current + 1 to horizon; 0
+-- new year not ahead (replan); 0
 abbrev pub yearNotAhead : ℕ
 yearNotAhead = 13
 
--- a kg line above 268,435,455 (close); the cell
+-- a kg line too large for its word (close); the cell
 abbrev pub lineTooLarge : ℕ
 lineTooLarge = 14
 
--- forecast: output below horizon numbers; its length
+-- forecast: output too short; its length
 abbrev pub outputShort : ℕ
 outputShort = 15
 
@@ -73,10 +74,10 @@ outOfRange = 17
 abbrev pub readingMissing : ℕ
 readingMissing = 18
 
--- discount: list lengths unequal or not 1–5; 0
+-- discount: wrong list lengths; 0
 abbrev pub listLengths : ℕ
 listLengths = 19
 
--- a value above 20,000; the list, 0–3
+-- a value too large; the list, 0–3
 abbrev pub valueTooLarge : ℕ
 valueTooLarge = 20

@@ -3,32 +3,32 @@
 ghost use mathlib.Core.Path.{_≡_};
 ghost use Prim.Native.Nat.{_^_, _<_};
 ghost use Rattle.words.specs.Bits.{bits, signedBits, isKind, within, wordOf, Named};
-ghost use Rattle.words.specs.Answers.{refused, outcome};
+ghost use Rattle.words.specs.Answers.{refused, outcome, amount};
 
 // The numbers of document 01, "Where a call stops", in the order of its table.
 
-// Listing: fewer than 2 words; place 0.
+// Listing: too few words for a head; place 0.
 pub const TOO_FEW_WORDS: u32 = 1;
 
-// Word 0 or 1: kind, zero bits or range; its index.
+// A word of the head that is wrong; its index.
 pub const HEAD_WORD: u32 = 2;
 
-// Fewer words than strata × horizon + 2 × cells + 2; its length.
+// Too short for its head; its length.
 pub const LISTING_SHORT: u32 = 3;
 
-// Later word: kind, zero bits or range; its index.
+// A later word that is wrong; its index.
 pub const LATER_WORD: u32 = 4;
 
 // Term not above the one before; the later index.
 pub const TERM_NOT_ABOVE: u32 = 5;
 
-// Buffers: book below 2 + 3 × cells words; its length.
+// Buffers: book too short; its length.
 pub const BOOK_SHORT: u32 = 6;
 
-// Lines below 3 × cells words (close); its length.
+// Lines too short (close); its length.
 pub const LINES_SHORT: u32 = 7;
 
-// Book: word wrong; its index.
+// Book: a word that is wrong; its index.
 pub const BOOK_WORD: u32 = 8;
 
 // Call: close at the horizon; place 0.
@@ -40,16 +40,16 @@ pub const NO_SUCH_CELL: u32 = 10;
 // Cell withdrawn (replan, withdraw); place 0.
 pub const CELL_WITHDRAWN: u32 = 11;
 
-// Plan year from 1 to current (replan); place 0.
+// Cell converted already (replan); place 0.
 pub const CELL_CONVERTED: u32 = 12;
 
-// New year neither 0 nor current + 1 to horizon; place 0.
+// New year not ahead (replan); place 0.
 pub const YEAR_NOT_AHEAD: u32 = 13;
 
-// A kg line above 268,435,455 (close); the cell.
+// A kg line too large for its word (close); the cell.
 pub const LINE_TOO_LARGE: u32 = 14;
 
-// Forecast: output below horizon numbers; its length.
+// Forecast: output too short; its length.
 pub const OUTPUT_SHORT: u32 = 15;
 
 // Reading: not finite; 0 or 1.
@@ -61,10 +61,10 @@ pub const OUT_OF_RANGE: u32 = 17;
 // Missing; place 0.
 pub const READING_MISSING: u32 = 18;
 
-// Discount: list lengths unequal or not 1–5; place 0.
+// Discount: wrong list lengths; place 0.
 pub const LIST_LENGTHS: u32 = 19;
 
-// A value above 20,000; the list, 0–3.
+// A value too large; the list, 0–3.
 pub const VALUE_TOO_LARGE: u32 = 20;
 
 // Why a call is refused, and where.
@@ -79,11 +79,24 @@ pub enum Outcome {
     Refused(Refusal),
 }
 
+// The answer of a call that hands out a number: tonnes, mm or ten-thousandths.
+pub enum Amount {
+    Value(u32),
+    Refused(Refusal),
+}
+
 // The refusal as an outcome.
 pub fn refuse(number: u32, place: usize) -> Outcome
     ensures { λ r. ⌜ outcome r ≡ refused number place ⌝ }
 {
     Outcome::Refused(Refusal { number, place })
+}
+
+// The refusal as an amount.
+pub fn refuse_amount(number: u32, place: usize) -> Amount
+    ensures { λ r. ⌜ amount r ≡ refused number place ⌝ }
+{
+    Amount::Refused(Refusal { number, place })
 }
 
 // Bits `high` to `low` of `w`, as a number.

@@ -67,7 +67,7 @@ abbrev pub year : List ℕ → List ℕ → List ℕ
 year l b =
     let m = closing l b (zeros 3) in
     let paid = issuing l (m .book) in
-    oxidisedLine (m .lines) 0 ∷ burnedLine (m .lines) 0 ∷ kgLine (m .lines) 0 ∷ paid .answer .value ∷ paid .book
+    oxidisedLine (m .output) 0 ∷ burnedLine (m .output) 0 ∷ kgLine (m .output) 0 ∷ paid .answer .value ∷ paid .book
 
 -- a depth by the patterns of its binary32 numbers
 abbrev pub core : ℕ → List ℕ

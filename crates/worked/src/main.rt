@@ -1,11 +1,9 @@
 // Document 01's worked figures and refusals, run through the calls. Each line says what was asked,
 // and then the number, the place and the value of the answer; crates/worked/stdout has what document
 // 01 gives.
-use discount::Discounted;
-use ledger::Issued;
 use ledger::Stated;
-use reading::Measured;
 use reading::Reading;
+use words::Amount;
 use words::Outcome;
 
 fn line(name: &[u8], number: u64, place: u64, value: u64) {
@@ -34,12 +32,13 @@ fn checked(name: &[u8], listing: &[u32]) {
     answered(name, listing::check(listing));
 }
 
-fn paid(name: &[u8], answer: Issued) {
+// An issue's tonnes, a reading's mm or a discount's ten-thousandths.
+fn valued(name: &[u8], answer: Amount) {
     match answer {
-        Issued::Tonnes(t) => {
-            line(name, 0, 0, t as u64);
+        Amount::Value(v) => {
+            line(name, 0, 0, v as u64);
         }
-        Issued::Refused(r) => {
+        Amount::Refused(r) => {
             line(name, r.number as u64, r.place as u64, 0);
         }
     }
@@ -69,25 +68,7 @@ fn handed(name: &[u8], lines: &[u32], i: usize) {
 }
 
 fn measured(name: &[u8], reading: Reading) {
-    match reading::depth(reading) {
-        Measured::Millimetres(mm) => {
-            line(name, 0, 0, mm as u64);
-        }
-        Measured::Refused(r) => {
-            line(name, r.number as u64, r.place as u64, 0);
-        }
-    }
-}
-
-fn discounted(name: &[u8], answer: Discounted) {
-    match answer {
-        Discounted::TenThousandths(n) => {
-            line(name, 0, 0, n as u64);
-        }
-        Discounted::Refused(r) => {
-            line(name, r.number as u64, r.place as u64, 0);
-        }
-    }
+    valued(name, reading::depth(reading));
 }
 
 // Whether the terms up to `last` of the years 1 to `year` come to `tonnes`.
@@ -180,11 +161,11 @@ fn discounts() {
     let width = [150u32];
     let more = [3000u32];
     let less = [2000u32];
-    discounted(
+    valued(
         b"Q 22,500, D 1000",
         discount::discount(&width, &none, &more, &less),
     );
-    discounted(
+    valued(
         b"Q 22,501, D 1000",
         discount::discount(&width, &one, &less, &more),
     );
@@ -192,20 +173,20 @@ fn discounts() {
     let second = [0u32, 160];
     let halves = [1500u32, 1500];
     let thirds = [1000u32, 1000];
-    discounted(
+    valued(
         b"Q 40,000, D 1000",
         discount::discount(&first, &second, &halves, &thirds),
     );
-    discounted(
+    valued(
         b"no distance",
         discount::discount(&width, &one, &more, &more),
     );
-    discounted(
+    valued(
         b"unequal lists",
         discount::discount(&width, &second, &more, &less),
     );
     let large = [20_001u32];
-    discounted(
+    valued(
         b"20,001 in list 2",
         discount::discount(&width, &one, &large, &large),
     );
@@ -217,14 +198,14 @@ fn unopened(l: &[u32], b: &mut [u32], x: &mut [u32]) {
     answered(b"no book", ledger::open(l, &mut []));
     answered(b"open", ledger::open(l, b));
     answered(b"no lines", ledger::close(l, b, &mut []));
-    paid(b"issue in year 0", ledger::issue(l, b));
+    valued(b"issue in year 0", ledger::issue(l, b));
 }
 
 // A closing and an issue.
 fn year(l: &[u32], b: &mut [u32], x: &mut [u32], i: usize) {
     answered(b"close", ledger::close(l, b, &mut x[..]));
     handed(b"its lines", &x[..], i);
-    paid(b"issue", ledger::issue(l, b));
+    valued(b"issue", ledger::issue(l, b));
 }
 
 // What is refused once the horizon is reached and the cell is converted.

@@ -1,18 +1,21 @@
--- A cell's year: its products fit, an emission grows with what is lost, and no more is lost than there is. Assumes nothing.
-use mathlib.Core.Path.{_≡_, refl}
+-- A cell's year: its products fit, an emission grows with what is lost, no more is lost than there is, and which figures it goes by.
+-- Assumes nothing.
+use mathlib.Core.Path.{_≡_, refl, sym, ap, _∙_}
 use mathlib.Core.Bool.{Bool, true, false, _||_, true≢false}
 use Prim.Native.Nat.{ℕ, _+_, _-_, _*_, _≤_, _<_}
-use native.Mathlib.Nat.{add-zero, mul-le-mul}
+use native.Mathlib.Nat.{add-zero, mul-le-mul, sub-self}
 use native.Mathlib.Omega.{arith}
-use lib.Dec.{ltb}
+use lib.Dec.{ltb, eqb}
+use borrow.Author.Tests.{lt-ltb, ltb-false, eqb-false}
 use Rattle.words.proofs.Signed.{by-test}
 use Rattle.fields.specs.Right.{HeadRight, RowRight, CellRight}
 use Rattle.fields.specs.declared.Head.{Head}
 use Rattle.fields.specs.declared.Row.{Row}
 use Rattle.fields.specs.declared.Cell.{Cell}
-use Rattle.year.specs.Year.{unconverted, rests, age, drained, remaining, burnedBy, oxidisedBy, emission, kgOf, fire, lossOf, none, yearLoss, mostLoss}
-use Rattle.year.specs.Fit.{Fit}
+use Rattle.year.specs.Year.{unconverted, rests, age, drained, remaining, burnedBy, oxidisedBy, fire, mmOf, noMm, yearMm, emission, kgOf, lossOf, yearLoss, none, mostLine, mostEmission, mostLoss}
+use Rattle.year.specs.Fit.{Fit, SameFigures}
 use Rattle.year.specs.declared.Entry.{Entry}
+use Rattle.year.specs.declared.Depths.{Depths}
 use Rattle.year.specs.declared.Loss.{Loss}
 
 -- ---- the products of an emission
@@ -49,9 +52,14 @@ module _ {h : Head} {c : Cell} {o b : ℕ} (fit : Fit h c o b) where
   pub fit-weight : weight h c o b ≤ 24480000000000000
   fit-weight = weight-most (fit .head-right) (fit .cell-right) o b lost-most burned-most
 
-  pub emission-most : emission h c o b ≤ 816000000
+  pub emission-most : emission h c o b ≤ mostEmission
   unfolding emission
   emission-most = omega (arith, fit-weight)
+
+-- nothing lost is nothing emitted
+pub emission-none : (h : Head) (c : Cell) → emission h c 0 0 ≡ 0
+unfolding emission
+emission-none h c = omega arith
 
 -- ---- more lost: no less emitted, and at most as much more as the difference alone emits
 sums : (k w o b o′ b′ : ℕ) → k * (11000 * ((o + o′) + (b + b′)) + w * (b + b′)) ≡ k * (11000 * (o + b) + w * b) + k * (11000 * (o′ + b′) + w * b′)
@@ -81,24 +89,28 @@ module _ (d o left burned : ℕ) where
   oxidised-least = (omega arith, omega arith)
 
 module _ (h : Head) (c : Cell) (r : Row) (e : Entry) where
-  abbrev pub oxidises : ℕ
-  oxidises = oxidisedBy (drained r) (r .oxidation) (remaining c e) (fire h c r e)
-
-  fire-least : (fire h c r e ≤ r .burning) × (fire h c r e ≤ remaining c e) × (fire h c r e ≤ drained r - h .guard)
-  fire-least = burned-least (h .guard) (drained r) (r .burning) (remaining c e)
-
-  rest-least : (oxidises ≤ r .oxidation) × (oxidises ≤ remaining c e - fire h c r e)
-  rest-least = oxidised-least (drained r) (r .oxidation) (remaining c e) (fire h c r e)
+  mm-least :
+      (mmOf h c r e .burned ≤ r .burning) × (mmOf h c r e .burned ≤ remaining c e) × (mmOf h c r e .burned ≤ drained r - h .guard)
+      × (mmOf h c r e .oxidised ≤ r .oxidation) × (mmOf h c r e .oxidised ≤ remaining c e - mmOf h c r e .burned)
+  unfolding mmOf
+  mm-least =
+      let b = burned-least (h .guard) (drained r) (r .burning) (remaining c e) in
+      let o = oxidised-least (drained r) (r .oxidation) (remaining c e) (fire h c r e) in
+      (b .0, b .1, b .2, o .0, o .1)
 
   -- no more is lost than was entered, after the year too
-  pub lost-within : e .oxidised + e .burned ≤ c .entered → (e .oxidised + oxidises) + (e .burned + fire h c r e) ≤ c .entered
-  lost-within p = let f = fire-least in let o = rest-least in omega arith
+  pub lost-within : e .oxidised + e .burned ≤ c .entered → (e .oxidised + mmOf h c r e .oxidised) + (e .burned + mmOf h c r e .burned) ≤ c .entered
+  lost-within p = let m = mm-least in omega arith
 
-  -- the loss, by what the calls for its parts answered
-  pub loss-by : (o b before then : ℕ) → o ≡ oxidises → b ≡ fire h c r e → before ≡ kgOf h c e → then ≡ emission h c (e .oxidised + o) (e .burned + b) →
-      _≡_ {A = Loss} (record { oxidised = o; burned = b; kg = then - before }) (lossOf h c r e)
+  -- the mm, and the loss, by what the calls for their parts answered
+  pub mm-by : (o b : ℕ) → b ≡ fire h c r e → o ≡ oxidisedBy (drained r) (r .oxidation) (remaining c e) b → _≡_ {A = Depths} (record { oxidised = o; burned = b }) (mmOf h c r e)
+  unfolding mmOf
+  mm-by o b p q = rw (q, p)
+
+  pub loss-by : (m : Depths) (before then : ℕ) → m ≡ mmOf h c r e → before ≡ kgOf h c e → then ≡ emission h c (e .oxidised + m .oxidised) (e .burned + m .burned) →
+      _≡_ {A = Loss} (record { oxidised = m .oxidised; burned = m .burned; kg = then - before }) (lossOf h c r e)
   unfolding lossOf
-  loss-by o b before then p q u v = rw (v, u, p, q)
+  loss-by m before then p u v = rw (v, u, p)
 
 -- ---- the most that can be lost
 module _ (h : Head) (c : Cell) where
@@ -110,55 +122,128 @@ module _ (h : Head) (c : Cell) where
   unfolding mostLoss
   most-peat e = rw e
 
--- a cell that does not rest is converted, and is peat
-pub or-false : (a b : Bool) → (a || b) ≡ false → (a ≡ false) × (b ≡ false)
+-- ---- who rests
+or-false : (a b : Bool) → (a || b) ≡ false → (a ≡ false) × (b ≡ false)
 or-false true b h = absurd (true≢false h)
 or-false false b h = (refl, h)
 
-module _ (h : Head) (c : Cell) (e : Entry) (t : ℕ) (q : rests h c e t ≡ false) where
-  pub awake : (unconverted (e .plan) t ≡ false) × (ltb (c .entered) (h .thickness) ≡ false)
+or-true : (a : Bool) → (a || true) ≡ true
+or-true true = refl
+or-true false = refl
+
+-- a plan year of 0, or above t
+pub unconverted-never : (plan t : ℕ) → plan ≡ 0 → unconverted plan t ≡ true
+unfolding unconverted
+unconverted-never plan t q = rw q
+
+pub unconverted-before : (plan t : ℕ) → t < plan → unconverted plan t ≡ true
+unfolding unconverted
+unconverted-before plan t lt = rw (lt-ltb t plan lt, or-true (eqb plan 0))
+
+-- one that is not so is from 1 to t
+pub converted : (plan t : ℕ) → unconverted plan t ≡ false → (1 ≤ plan) × (plan ≤ t)
+unfolding unconverted
+converted plan t q =
+    let h = or-false (eqb plan 0) (ltb t plan) q in
+    let some : plan ≡ 0 → ⊥ = eqb-false plan 0 (h .0) in
+    let le = ltb-false t plan (h .1) in
+    (omega arith, le)
+
+module _ (h : Head) (c : Cell) (e : Entry) (t : ℕ) where
+  unconverted-rests : unconverted (e .plan) t ≡ true → rests h c e t ≡ true
   unfolding rests
-  awake = or-false (unconverted (e .plan) t) _ (or-false (e .withdrawn) _ q .1)
+  unconverted-rests q = rw (q, or-true (e .withdrawn))
+
+  -- a cell that does not rest is converted, and is peat
+  pub active : rests h c e t ≡ false → (unconverted (e .plan) t ≡ false) × (ltb (c .entered) (h .thickness) ≡ false)
+  unfolding rests
+  active q = or-false (unconverted (e .plan) t) _ (or-false (e .withdrawn) _ q .1)
 
 -- ---- the year, whether the cell rests or not
 module _ (h : Head) (rows : ℕ → ℕ → Row) (c : Cell) (e : Entry) (t : ℕ) where
   abbrev row : Row
   row = rows (c .stratum) (age (e .plan) t)
 
-  year-is : (P : Loss → Type 0) → P none → (rests h c e t ≡ false → P (lossOf h c row e)) → P (yearLoss h rows c e t)
+  pub mm-rests : rests h c e t ≡ true → yearMm h rows c e t ≡ noMm
+  unfolding yearMm
+  mm-rests q = rw q
+
+  pub mm-active : rests h c e t ≡ false → yearMm h rows c e t ≡ mmOf h c row e
+  unfolding yearMm
+  mm-active q = rw q
+
+  pub loss-rests : rests h c e t ≡ true → yearLoss h rows c e t ≡ none
   unfolding yearLoss
-  year-is P p q = by-test P (rests h c e t) none (lossOf h c row e) (λ z. p) q
+  loss-rests q = rw (mm-rests q, add-zero (e .oxidised), add-zero (e .burned), sub-self (kgOf h c e))
+
+  pub unconverted-loss : unconverted (e .plan) t ≡ true → yearLoss h rows c e t ≡ none
+  unconverted-loss q = loss-rests (unconverted-rests h c e t q)
+
+  pub loss-active : rests h c e t ≡ false → yearLoss h rows c e t ≡ lossOf h c row e
+  unfolding yearLoss lossOf
+  loss-active q = rw (mm-active q)
+
+  -- by the two cases
+  mm-is : (P : Depths → Type 0) → (rests h c e t ≡ true → P noMm) → (rests h c e t ≡ false → P (mmOf h c row e)) → P (yearMm h rows c e t)
+  unfolding yearMm
+  mm-is P p q = by-test P (rests h c e t) noMm (mmOf h c row e) p q
 
   -- no more is lost after the year than can be
   pub year-most : e .oxidised + e .burned ≤ mostLoss h c → (e .oxidised + yearLoss h rows c e t .oxidised) + (e .burned + yearLoss h rows c e t .burned) ≤ mostLoss h c
-  unfolding lossOf
+  unfolding yearLoss
   year-most p =
-      year-is (λ (s : Loss). (e .oxidised + s .oxidised) + (e .burned + s .burned) ≤ mostLoss h c) (omega arith)
-      (λ q. let peat = most-peat h c (awake h c e t q .1) in omega (arith, lost-within h c row e (omega arith)))
+      mm-is (λ (m : Depths). (e .oxidised + m .oxidised) + (e .burned + m .burned) ≤ mostLoss h c) (λ q. omega arith)
+      (λ q. let peat = most-peat h c (active h c e t q .1) in omega (arith, lost-within h c row e (omega arith)))
 
   -- the kg line is earned by the mm
   pub year-kg : kgOf h c e + yearLoss h rows c e t .kg ≡ emission h c (e .oxidised + yearLoss h rows c e t .oxidised) (e .burned + yearLoss h rows c e t .burned)
-  unfolding lossOf
-  year-kg =
-      year-is (λ (s : Loss). kgOf h c e + s .kg ≡ emission h c (e .oxidised + s .oxidised) (e .burned + s .burned))
-      (simp add-zero)
-      (λ q. omega (arith, emission-grows h c (e .oxidised) (e .burned) (oxidises h c row e) (fire h c row e)))
+  unfolding yearLoss
+  year-kg = omega (arith, emission-grows h c (e .oxidised) (e .burned) (yearMm h rows c e t .oxidised) (yearMm h rows c e t .burned))
 
   -- a fire leaves the guard dry
   pub year-dry : 0 < yearLoss h rows c e t .burned → (unconverted (e .plan) t ≡ false) × (h .guard + yearLoss h rows c e t .burned ≤ drained (rows (c .stratum) (age (e .plan) t)))
-  unfolding lossOf
+  unfolding yearLoss
   year-dry =
-      year-is (λ (s : Loss). 0 < s .burned → (unconverted (e .plan) t ≡ false) × (h .guard + s .burned ≤ drained row))
-      (λ z. absurd (omega arith))
-      (λ q z. (awake h c e t q .0, let f = fire-least h c row e in omega arith))
+      mm-is (λ (m : Depths). 0 < m .burned → (unconverted (e .plan) t ≡ false) × (h .guard + m .burned ≤ drained row))
+      (λ q z. absurd (omega arith))
+      (λ q z. (active h c e t q .0, let m = mm-least h c row e in omega arith))
 
-  -- no kg line exceeds 50,740,800
-  pub year-kg-most : HeadRight h → CellRight (h .strata) (h .horizon) c → ((s a : ℕ) → RowRight (rows s a)) → yearLoss h rows c e t .kg ≤ 50740800
-  unfolding lossOf
-  year-kg-most head cell right =
-      year-is (λ (s : Loss). s .kg ≤ 50740800) (omega arith)
-      (λ q.
-      let f = fire-least h c row e in
-      let o = rest-least h c row e in
-      let r = right (c .stratum) (age (e .plan) t) in
-      omega (arith, emission-more h c (e .oxidised) (e .burned) (oxidises h c row e) (fire h c row e) 50740800 (weight-most head cell (oxidises h c row e) (fire h c row e) {m = 2046} {n = 1023} (omega arith) (omega arith))))
+  -- by the limits of a right listing: no more than 2,046 mm are lost, no more than 1,023 mm of them burned
+  module _ (head : HeadRight h) (cell : CellRight (h .strata) (h .horizon) c) (right : (s a : ℕ) → RowRight (rows s a)) where
+    mm-most : (yearMm h rows c e t .oxidised + yearMm h rows c e t .burned ≤ 2046) × (yearMm h rows c e t .burned ≤ 1023)
+    mm-most =
+        mm-is (λ (m : Depths). (m .oxidised + m .burned ≤ 2046) × (m .burned ≤ 1023)) (λ q. (omega arith, omega arith))
+        (λ q. let m = mm-least h c row e in let r = right (c .stratum) (age (e .plan) t) in (omega arith, omega arith))
+
+    pub year-kg-most : yearLoss h rows c e t .kg ≤ mostLine
+    unfolding yearLoss
+    year-kg-most =
+        let m = yearMm h rows c e t in
+        omega (arith, emission-more h c (e .oxidised) (e .burned) (m .oxidised) (m .burned) mostLine (weight-most head cell (m .oxidised) (m .burned) (mm-most .0) (mm-most .1)))
+
+-- ---- the year goes by four figures of the head, the cell, its entry and its own row
+module _ {h h′ : Head} (figures : SameFigures h h′) (c : Cell) (e : Entry) where
+  rests-same : (t : ℕ) → rests h c e t ≡ rests h′ c e t
+  unfolding rests
+  rests-same t = rw (figures .thickness)
+
+  mm-same : (r : Row) → mmOf h c r e ≡ mmOf h′ c r e
+  unfolding mmOf
+  mm-same r = rw (figures .guard)
+
+  pub emission-same : (o b : ℕ) → emission h c o b ≡ emission h′ c o b
+  unfolding emission
+  emission-same o b = rw (figures .warming, figures .methane)
+
+  module _ (rows rows′ : ℕ → ℕ → Row) (t : ℕ) (same : unconverted (e .plan) t ≡ false → rows (c .stratum) (age (e .plan) t) ≡ rows′ (c .stratum) (age (e .plan) t)) where
+    pub mm-by-figures : yearMm h rows c e t ≡ yearMm h′ rows′ c e t
+    mm-by-figures =
+        mm-is h rows c e t (λ (m : Depths). m ≡ yearMm h′ rows′ c e t)
+        (λ q. sym (mm-rests h′ rows′ c e t (sym (rests-same t) ∙ q)))
+        (λ q. mm-same _ ∙ ap (λ (r : Row). mmOf h′ c r e) (same (active h c e t q .0)) ∙ sym (mm-active h′ rows′ c e t (sym (rests-same t) ∙ q)))
+
+    pub loss-by-figures : yearLoss h rows c e t ≡ yearLoss h′ rows′ c e t
+    unfolding yearLoss
+    loss-by-figures =
+        let m = yearMm h′ rows′ c e t in
+        rw (mm-by-figures, emission-same (e .oxidised + m .oxidised) (e .burned + m .burned), emission-same (e .oxidised) (e .burned))

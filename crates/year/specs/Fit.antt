@@ -1,4 +1,5 @@
--- What a cell's year is asked for: figures that an accepted listing and an accepted book guarantee.
+-- What a cell's year is asked for, figures that an accepted listing and an accepted book guarantee; and which figures of the head it goes by.
+use mathlib.Core.Path.{_≡_}
 use Prim.Native.Nat.{ℕ, _+_, _≤_}
 use Rattle.fields.specs.Right.{HeadRight, CellRight}
 use Rattle.fields.specs.declared.Head.{Head}
@@ -9,3 +10,10 @@ pub record Fit (h : Head) (c : Cell) (oxidised burned : ℕ) : Type 0 where
   pub head-right : HeadRight h
   pub cell-right : CellRight (h .strata) (h .horizon) c
   pub lost : oxidised + burned ≤ c .entered
+
+-- the four figures of the head that a cell's year goes by are the same
+pub record SameFigures (h h′ : Head) : Type 0 where
+  pub guard : h .guard ≡ h′ .guard
+  pub thickness : h .thickness ≡ h′ .thickness
+  pub warming : h .warming ≡ h′ .warming
+  pub methane : h .methane ≡ h′ .methane

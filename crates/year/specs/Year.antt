@@ -1,11 +1,12 @@
 -- Document 01, "A cell's year": what a cell loses, by the listing's figures h and c, its table's row r, and its entry e in the book.
 use Prim.Native.Nat.{ℕ, _+_, _-_, _*_, _/_, min}
-use mathlib.Core.Bool.{Bool, cond, _||_}
+use mathlib.Core.Bool.{Bool, true, false, cond, _||_}
 use lib.Dec.{ltb, eqb}
 use Rattle.fields.specs.declared.Head.{Head}
 use Rattle.fields.specs.declared.Row.{Row}
 use Rattle.fields.specs.declared.Cell.{Cell}
 use Rattle.year.specs.declared.Entry.{Entry}
+use Rattle.year.specs.declared.Depths.{Depths}
 use Rattle.year.specs.declared.Loss.{Loss}
 
 -- the plan year is 0 or above t
@@ -36,6 +37,21 @@ burnedBy guard d b left = min b (min left (d - guard))
 unfoldable pub oxidisedBy : ℕ → ℕ → ℕ → ℕ → ℕ
 oxidisedBy d o left burned = min o (min (left - burned) (d - burned))
 
+-- a cell that does not rest, with row r: what it burns, and with that what it oxidises
+abbrev pub fire : Head → Cell → Row → Entry → ℕ
+fire h c r e = burnedBy (h .guard) (drained r) (r .burning) (remaining c e)
+
+unfoldable pub mmOf : Head → Cell → Row → Entry → Depths
+mmOf h c r e = record { oxidised = oxidisedBy (drained r) (r .oxidation) (remaining c e) (fire h c r e); burned = fire h c r e }
+
+-- no mm
+abbrev pub noMm : Depths
+noMm = record { oxidised = 0; burned = 0 }
+
+-- the mm of a cell's year t: the row is that of the cell's own stratum and of its own age
+unfoldable pub yearMm : Head → (ℕ → ℕ → Row) → Cell → Entry → ℕ → Depths
+yearMm h rows c e t = cond (rests h c e t) noMm (mmOf h c (rows (c .stratum) (age (e .plan) t)) e)
+
 -- emission to date in kg CO2e: K × (11,000 × (O + B) + 4 × G × e × B) / 30,000,000, rounded down, with K = area × q
 unfoldable pub emission : Head → Cell → ℕ → ℕ → ℕ
 emission h c o b = c .area * c .density * (11000 * (o + b) + 4 * h .warming * h .methane * b) / 30000000
@@ -45,27 +61,44 @@ abbrev pub kgOf : Head → Cell → Entry → ℕ
 kgOf h c e = emission h c (e .oxidised) (e .burned)
 
 -- a year's kg line is the emission after the year minus the emission before it
-abbrev pub lossWith : Head → Cell → Entry → ℕ → ℕ → Loss
-lossWith h c e oxidised burned = record { oxidised = oxidised; burned = burned; kg = emission h c (e .oxidised + oxidised) (e .burned + burned) - kgOf h c e }
+abbrev pub withKg : Head → Cell → Entry → Depths → Loss
+withKg h c e m = record { oxidised = m .oxidised; burned = m .burned; kg = emission h c (e .oxidised + m .oxidised) (e .burned + m .burned) - kgOf h c e }
 
--- what a cell with row r burns, and with that what it loses
-abbrev pub fire : Head → Cell → Row → Entry → ℕ
-fire h c r e = burnedBy (h .guard) (drained r) (r .burning) (remaining c e)
-
+-- the loss of a cell that does not rest, and that of a cell's year t: its mm, with their kg
 unfoldable pub lossOf : Head → Cell → Row → Entry → Loss
-lossOf h c r e = lossWith h c e (oxidisedBy (drained r) (r .oxidation) (remaining c e) (fire h c r e)) (fire h c r e)
+lossOf h c r e = withKg h c e (mmOf h c r e)
 
--- nothing
+unfoldable pub yearLoss : Head → (ℕ → ℕ → Row) → Cell → Entry → ℕ → Loss
+yearLoss h rows c e t = withKg h c e (yearMm h rows c e t)
+
+-- nothing: what a cell that rests loses
 abbrev pub none : Loss
 none = record { oxidised = 0; burned = 0; kg = 0 }
 
--- a cell's year t: the row is that of the cell's own stratum and of its own age
-unfoldable pub yearLoss : Head → (ℕ → ℕ → Row) → Cell → Entry → ℕ → Loss
-yearLoss h rows c e t = cond (rests h c e t) none (lossOf h c (rows (c .stratum) (age (e .plan) t)) e)
+-- the greatest kg line of a year, and the greatest emission to date of a cell; proofs/Laws.antt proves that none is greater
+abbrev pub mostLine : ℕ
+mostLine = 50740800
 
--- what the book holds of a cell after a loss: O and B with the year's mm added
+abbrev pub mostEmission : ℕ
+mostEmission = 816000000
+
+-- ---- what the book holds of a cell
+
+-- a cell that was opened with a plan year: no mark, nothing lost
+abbrev pub opened : ℕ → Entry
+opened plan = record { withdrawn = false; plan = plan; oxidised = 0; burned = 0 }
+
+-- after a loss: O and B with the year's mm added
 abbrev pub grown : Entry → Loss → Entry
 grown e s = record { withdrawn = e .withdrawn; plan = e .plan; oxidised = e .oxidised + s .oxidised; burned = e .burned + s .burned }
+
+-- with another plan year
+abbrev pub planned : Entry → ℕ → Entry
+planned e plan = record { withdrawn = e .withdrawn; plan = plan; oxidised = e .oxidised; burned = e .burned }
+
+-- with the mark of a withdrawn cell
+abbrev pub marked : Entry → Entry
+marked e = record { withdrawn = true; plan = e .plan; oxidised = e .oxidised; burned = e .burned }
 
 -- no more can be lost of a cell than was entered, and nothing of one below the least thickness
 unfoldable pub mostLoss : Head → Cell → ℕ

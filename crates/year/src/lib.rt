@@ -1,8 +1,8 @@
 // A cell's year: what burns, what oxidises, and what both emit.
 ghost use mathlib.Core.Path.{_≡_};
-ghost use Prim.Native.Nat.{_-_, min};
+ghost use Prim.Native.Nat.{_+_, _-_, _^_, _<_, min};
 ghost use Rattle.fields.specs.Right.{RowRight};
-ghost use Rattle.year.specs.Year.{unconverted, rests, burnedBy, oxidisedBy, emission, lossOf, mostLoss};
+ghost use Rattle.year.specs.Year.{unconverted, rests, burnedBy, oxidisedBy, emission, kgOf, mmOf, lossOf, opened, grown, planned, marked, mostLoss};
 ghost use Rattle.year.specs.Fit.{Fit};
 use fields::Cell;
 use fields::Head;
@@ -16,11 +16,66 @@ pub struct Entry {
     pub burned: u32,
 }
 
+// The mm that a cell loses in a year.
+pub struct Depths {
+    pub oxidised: u32,
+    pub burned: u32,
+}
+
 // What a cell loses in a year: mm, mm and kg, as its three lines say.
 pub struct Loss {
     pub oxidised: u32,
     pub burned: u32,
     pub kg: u32,
+}
+
+// The entry of a cell that was opened with a plan year.
+pub fn opened(plan: u32) -> Entry
+    ensures { λ r. ⌜ r ≡ opened plan ⌝ }
+{
+    Entry {
+        withdrawn: false,
+        plan,
+        oxidised: 0,
+        burned: 0,
+    }
+}
+
+// The entry after a loss.
+pub fn grown(e: Entry, s: Loss) -> Entry
+    requires { ⌜ (e .oxidised + s .oxidised < 2 ^ 32) × (e .burned + s .burned < 2 ^ 32) ⌝ }
+    ensures { λ r. ⌜ r ≡ grown e s ⌝ }
+{
+    Entry {
+        withdrawn: e.withdrawn,
+        plan: e.plan,
+        oxidised: e.oxidised + s.oxidised,
+        burned: e.burned + s.burned,
+    }
+}
+
+// The entry with another plan year.
+pub fn planned(e: Entry, plan: u32) -> Entry
+    ensures { λ r. ⌜ r ≡ planned e plan ⌝ }
+{
+    Entry {
+        withdrawn: e.withdrawn,
+        plan,
+        oxidised: e.oxidised,
+        burned: e.burned,
+    }
+}
+
+// The entry with the mark of a withdrawn cell.
+pub fn marked(e: Entry) -> Entry
+    ensures { λ r. ⌜ r ≡ marked e ⌝ }
+{
+    Entry {
+        withdrawn: true,
+        plan: e.plan,
+        oxidised: e.oxidised,
+        burned: e.burned,
+    }
 }
 
 fn least(a: u32, b: u32) -> u32
@@ -75,20 +130,28 @@ pub fn emission(h: Head, c: Cell, oxidised: u32, burned: u32) -> u32
     (k * (lost + methane) / 30000000) as u32
 }
 
-// What a cell that does not rest loses, by its row of the table: the fire comes first.
-pub fn loss_of(h: Head, c: Cell, r: Row, e: Entry) -> Loss
+// The mm that a cell that does not rest loses, by its row of the table: the fire comes first.
+pub fn mm_of(h: Head, c: Cell, r: Row, e: Entry) -> Depths
     requires { ⌜ Fit h c (e .oxidised) (e .burned) × RowRight r ⌝ }
-    ensures { λ s. ⌜ s ≡ lossOf h c r e ⌝ }
+    ensures { λ m. ⌜ m ≡ mmOf h c r e ⌝ }
 {
     let left = c.entered - (e.oxidised + e.burned);
     let d = 10 * r.drainage;
     let burned = burned_by(h.guard, d, r.burning, left);
     let oxidised = oxidised_by(d, r.oxidation, left, burned);
-    let before = emission(h, c, e.oxidised, e.burned);
-    let then = emission(h, c, e.oxidised + oxidised, e.burned + burned);
+    Depths { oxidised, burned }
+}
+
+// What it loses in all, where its kg to date is `before`.
+pub fn loss_of(h: Head, c: Cell, r: Row, e: Entry, before: u32) -> Loss
+    requires { ⌜ Fit h c (e .oxidised) (e .burned) × RowRight r × (before ≡ kgOf h c e) ⌝ }
+    ensures { λ s. ⌜ s ≡ lossOf h c r e ⌝ }
+{
+    let m = mm_of(h, c, r, e);
+    let then = emission(h, c, e.oxidised + m.oxidised, e.burned + m.burned);
     Loss {
-        oxidised,
-        burned,
+        oxidised: m.oxidised,
+        burned: m.burned,
         kg: then - before,
     }
 }

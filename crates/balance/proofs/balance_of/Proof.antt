@@ -11,7 +11,7 @@ use borrow.Author.Needs.{needs}
 use Rattle.words.proofs.Signed.{call-reads, sub-fits, sub-reads}
 use Rattle.fields.specs.declared.Head.{Head}
 use Rattle.listing.specs.Layout.{head}
-use Rattle.balance.specs.Balance.{toDate, withheld, balanceOf}
+use Rattle.balance.specs.Balance.{toDate, withheld, balanceOf, mostTonnes}
 use Rattle.balance.proofs.Bounds.{held-size, date-size}
 use Rattle.balance.proofs.balance_of.Statement.{statement}
 use Rattle.balance.proofs.balance_of.Tie as tie
@@ -23,7 +23,7 @@ module _ (s : tie.Start) where
   abbrev share : ℕ
   share = head (now (s .args .listing)) .buffer
 
-  small : (last : ℕ) → natAbs (date last) ≤ 2 ^ 30
+  small : (last : ℕ) → natAbs (date last) ≤ mostTonnes
   small last = omega (arith, date-size (now (s .args .listing)) (s .args .year) (s .args .peat) (s .pre .0) last, s .pre .1)
 
 -- S, by what the calls answered

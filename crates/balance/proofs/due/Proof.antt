@@ -18,7 +18,7 @@ module _ (s : tie.Start) where
   z = s .args .balance
 
   room : natAbs z + s .args .issued < 2 ^ 63
-  room = omega (arith, s .pre .0, s .fits .issued)
+  room = omega (arith, s .pre .0, s .pre .2)
 
   balance : toZ w64 (ofZ w64 z) ≡ z
   balance = toZ-ofZ (s .fits .balance)

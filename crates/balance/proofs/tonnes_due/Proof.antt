@@ -24,7 +24,10 @@ module _ (c : tie.After-balance-of) where
   balance = call-reads w64 (c .balance-of .ok) (c .balance-of .ensures) ∙ ap₂ (balanceOf (now (start .args .listing))) (c .before .year .ensures) (c .before .before .peat-tonnes .ensures)
 
 due-requires : tie.Need-due-requires
-due-requires c κs = rw (balance (c .before)) (let s = start (c .before) in balance-fits (now (s .args .listing)) (now (s .args .book)) (s .pre))
+due-requires c κs =
+    let s = start (c .before) in
+    let fits = balance-fits (now (s .args .listing)) (now (s .args .book)) (s .pre) in
+    rw (balance (c .before)) (fits .0, fits .1, omega (arith, c .issued .ensures, s .pre .issued))
 
 returns : tie.Need-returns
 returns c = c .due .ensures ∙ ap₂ due (balance (c .before .before)) (c .before .issued .ensures)

@@ -1,11 +1,8 @@
--- `book::entry` meets its contract: the part that it reads is the cell's words. Assumes nothing.
-use native.Mathlib.Nat.{add-sub-cancel-left}
+-- `book::entry` meets its contract: it is what the cell's words say. Assumes nothing.
 use borrow.Author.Needs.{needs}
+use Rattle.book.proofs.Sound.{words-long}
 use Rattle.book.proofs.entry.Statement.{statement}
 use Rattle.book.proofs.entry.Tie as tie
 
-returns : tie.Need-returns
-returns c = rw (c .entry-of .ensures, add-sub-cancel-left)
-
 pub entry-spec : {M : Type 1} → statement M
-entry-spec = tie.close (tie.spec (λ c. search needs) (λ c. search needs) (λ c. search needs) (λ c. search needs) (λ c. search needs) (λ c. search needs) (λ c. search needs) (λ c κs. search needs) returns)
+entry-spec = tie.close (tie.spec (λ c κs. search needs) (λ c κs. rw (c .words-of .ensures) (words-long _ _ _ (c .before .before .pre))) (λ c. rw (c .entry-of .ensures, c .before .words-of .ensures)))

@@ -1,31 +1,7 @@
--- `book::put_plan` meets its contract: the mark stands above the plan year's 8 bits. Assumes nothing.
-use mathlib.Core.Path.{_≡_}
-use mathlib.Core.Logic.{⊎-elim}
-use mathlib.Core.Bool.{cond}
-use Prim.Native.Nat.{_+_, _*_, _^_, _%_, _≤_}
-use native.Mathlib.Omega.{arith}
-use lib.Bits.{bitOr}
+-- `book::put_plan` meets its contract: the cell's first word is stored. Assumes nothing.
 use borrow.Author.Needs.{needs}
-use Rattle.words.proofs.Fields.{join-law}
 use Rattle.book.proofs.put_plan.Statement.{statement}
 use Rattle.book.proofs.put_plan.Tie as tie
 
-module _ (c : tie.Joined1) where
-  -- the mark is 1 or 0, as the definition's
-  mark : (c .if1 .mark ≤ 1) × (c .if1 .mark ≡ cond (c .before .before .args .withdrawn) 1 0)
-  mark = ⊎-elim (λ t. (omega arith, rw (t .1, t .0 .taken))) (λ t. (omega arith, rw (t .1, t .0 .left))) (c .if1 .came)
-
-  joined : bitOr ((c .if1 .mark * 2 ^ 8) % 2 ^ 32) (c .before .before .args .plan) ≡ c .if1 .mark * 2 ^ 8 + c .before .before .args .plan
-  joined = join-law (c .if1 .mark) (c .before .before .args .plan) 1 8 (omega arith) (omega (arith, mark .0)) (c .before .before .pre .1)
-
 pub put-plan-spec : {M : Type 1} → statement M
-put-plan-spec =
-    tie.close
-    (tie.spec
-    (λ c. search needs)
-    (λ c. search needs)
-    (λ c κs. (omega arith, rw (joined (c .before)) (omega (arith, mark (c .before)))))
-    (λ c. search needs)
-    (λ c. search needs)
-    (λ c. search needs)
-    (λ c. rw (c .word .ensures, joined (c .before .before), mark (c .before .before) .1)))
+put-plan-spec = tie.close (tie.spec (λ c κs. search needs) (λ c κs. search needs) (λ c. search needs) (λ c. search needs) (λ c. search needs) (λ c. rw (c .plan-word .ensures, c .before .entry-at .ensures)))

@@ -1,6 +1,8 @@
 -- `capi::peat_close` meets its contract: the answer is sent as it is, and both slices are as the call leaves them. Assumes nothing.
 use borrow.Author.Needs.{needs}
-use Rattle.capi.proofs.Sent.{lines-sent}
+use mathlib.Core.Path.{ap, _∙_}
+use Rattle.words.proofs.Left.{left-answer, left-book, left-output}
+use Rattle.capi.specs.Sent.{sent}
 use Rattle.capi.proofs.peat_close.Statement.{statement}
 use Rattle.capi.proofs.peat_close.Tie as tie
 
@@ -12,4 +14,4 @@ peat-close-spec =
     (λ c κs. search needs)
     (λ c. search needs)
     (λ c. search needs)
-    (λ c. lines-sent _ _ (c .of-outcome .ensures) (c .before .before .before .before .before .close .ensures)))
+    (λ c. let e = c .before .before .before .before .before .close .ensures in (c .of-outcome .ensures ∙ ap sent (left-answer e), (left-book e, left-output e))))

@@ -1,6 +1,8 @@
 -- `capi::peat_open` meets its contract: the answer is sent as it is, and the book is as the call leaves it. Assumes nothing.
 use borrow.Author.Needs.{needs}
-use Rattle.capi.proofs.Sent.{left-sent}
+use mathlib.Core.Path.{ap, _∙_}
+use Rattle.words.proofs.Left.{left-answer, left-book}
+use Rattle.capi.specs.Sent.{sent}
 use Rattle.capi.proofs.peat_open.Statement.{statement}
 use Rattle.capi.proofs.peat_open.Tie as tie
 
@@ -11,4 +13,4 @@ peat-open-spec =
     (λ c κs. search needs)
     (λ c κs. search needs)
     (λ c. search needs)
-    (λ c. left-sent _ _ (c .of-outcome .ensures) (c .before .before .before .«open» .ensures)))
+    (λ c. let e = c .before .before .before .«open» .ensures in (c .of-outcome .ensures ∙ ap sent (left-answer e), left-book e)))

@@ -5,6 +5,7 @@ use Prim.Native.Nat.{_-_}
 use native.Mathlib.Omega.{arith}
 use lib.ListN.{length-take, length-drop}
 use Rattle.listing.specs.Layout.{cells}
+use Rattle.book.proofs.Sound.{shaped}
 use Rattle.closing.proofs.Closable.{timely-cells}
 use Rattle.closing.proofs.Turn.{Turned, turned-none, turn-losing, turn-fits, turned-next, turned-all}
 use Rattle.closing.proofs.close_cells.Statement.{statement}
@@ -21,25 +22,38 @@ loop-holds c =
     let pre = c .before .before .before .before .pre in
     (timely-cells (pre .0), turned-none _ (pre .1))
 
+-- the turn of cell i, and where its words begin
+module _ (c : tie.After-entry-at Inv-loop μ-loop) where
+  abbrev loop : tie.At-loop Inv-loop μ-loop
+  loop = c .before .before
+
+  abbrev start : tie.Start Inv-loop μ-loop
+  start = loop .before .before .before .before .before
+
 close-cell-requires : tie.Need-close-cell-requires Inv-loop μ-loop
 close-cell-requires c κs =
-    let t = c .before .before .loop in
-    let pre = c .before .before .before .before .before .before .before .pre in
-    turn-losing _ (pre .1) (pre .0) (t .i) (omega arith) (t .inv .1)
+    let at = c .before .before in
+    let t = loop at .loop in
+    let pre = start at .pre in
+    turn-losing _ (pre .1) (pre .0) (t .i) (omega arith) (t .inv .1) _ (at .entry-at .ensures)
 
 put-lines-requires : tie.Need-put-lines-requires Inv-loop μ-loop
 put-lines-requires c κs =
-    let t = c .before .before .before .before .before .before .loop in
-    let pre = c .before .before .before .before .before .before .before .before .before .before .before .pre in
-    let fits = turn-fits _ (pre .1) (pre .0) (t .i) (omega arith) (t .inv .1) (c .before .before .before .close-cell .ensures .0) in
+    let closed = c .before .before .before in
+    let at = closed .before .before .before in
+    let t = loop at .loop in
+    let pre = start at .pre in
+    let fits = turn-fits _ (pre .1) (pre .0) (t .i) (omega arith) (t .inv .1) _ (at .entry-at .ensures) (closed .close-cell .ensures .0) in
     (simp (length-take, length-drop) (omega arith), fits .0, fits .1, fits .2)
 
 loop-again : tie.Need-loop-again Inv-loop μ-loop
 loop-again c =
-    let t = c .before .before .before .before .before .before .before .before .before .loop in
-    let pre = c .before .before .before .before .before .before .before .before .before .before .before .before .before .before .pre in
-    let told = c .before .before .before .before .before .before .close-cell .ensures in
-    (t .inv .0, turned-next _ (pre .1) (pre .0) (t .i) (omega arith) (t .inv .1) (told .0) (told .1) (c .before .before .put-lines .ensures))
+    let closed = c .before .before .before .before .before .before in
+    let at = closed .before .before .before in
+    let t = loop at .loop in
+    let pre = start at .pre in
+    let told = closed .close-cell .ensures in
+    (t .inv .0, turned-next _ (pre .1) (pre .0) (t .i) (omega arith) (t .inv .1) _ (at .entry-at .ensures) (told .0) (told .1) (c .before .before .put-lines .ensures))
 
 returns : tie.Need-returns Inv-loop μ-loop
 returns c = turned-all (c .before .loop .inv .1) (omega arith)
@@ -52,8 +66,7 @@ close-cells-spec =
     μ-loop
     (λ c. search needs)
     loop-holds
-    (λ c. search needs)
-    (λ c. search needs)
+    (λ c κs. (shaped, omega arith))
     (λ c. search needs)
     (λ c. search needs)
     (λ c. search needs)

@@ -1,13 +1,14 @@
 -- `forecast::may_forecast` meets its contract: number 15 comes after those of an open. Assumes nothing.
 use borrow.Author.Needs.{needs}
 use Rattle.words.proofs.Answers.{answers}
-use Rattle.book.proofs.Sound.{fitted-done}
+use Rattle.book.specs.Current.{current}
+use Rattle.book.proofs.Sound.{shaped, fitted-done}
 use Rattle.forecast.specs.Forecast.{forecastAnswer}
 use Rattle.forecast.proofs.may_forecast.Statement.{statement}
 use Rattle.forecast.proofs.may_forecast.Tie as tie
 
 check-output-requires : tie.Need-check-output-requires
-check-output-requires c κs = fitted-done _ _ _ (c .before .before .fits2 .ensures) (c .enum-told .given .1) .accepted
+check-output-requires c κs = fitted-done current _ _ shaped _ (c .before .before .fits2 .ensures) (c .enum-told .given .1) .accepted
 
 pub may-forecast-spec : {M : Type 1} → statement M
 unfolding forecastAnswer

@@ -1,7 +1,7 @@
 -- `forecast::resting_years` meets its contract: its test is the definition's. Assumes nothing.
 use borrow.Author.Needs.{needs}
 use borrow.Author.Tests.{eq-eqb, ne-eqb}
-use Rattle.forecast.specs.CellYears.{restingYears}
+use Rattle.forecast.specs.Running.{restingYears}
 use Rattle.forecast.proofs.resting_years.Statement.{statement}
 use Rattle.forecast.proofs.resting_years.Tie as tie
 

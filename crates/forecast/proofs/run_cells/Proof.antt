@@ -2,11 +2,11 @@
 use mathlib.Core.Path.{_≡_, ap}
 use Prim.Native.Nat.{_-_}
 use native.Mathlib.Omega.{arith}
-use lib.ListN.{length-take, length-drop}
 use borrow.Author.Needs.{needs}
 use Rattle.fields.specs.declared.Head.{Head}
 use Rattle.listing.specs.Layout.{cells}
-use Rattle.forecast.proofs.Turn.{Turned, turned-none, turn-running, turn-small, turned-next, turned-all}
+use Rattle.book.proofs.Sound.{shaped}
+use Rattle.forecast.proofs.Turn.{Turned, turned-none, turn-running, turn-entry, turned-next, turned-all}
 use Rattle.forecast.proofs.run_cells.Statement.{statement}
 use Rattle.forecast.proofs.run_cells.Tie as tie
 
@@ -21,28 +21,36 @@ loop-holds c =
     let pre = c .before .before .before .before .pre in
     (ap (λ (h : Head). h .cells) (pre .1), turned-none (pre .0) (pre .2))
 
+-- the turn of cell i, and where its words begin
+module _ (c : tie.After-entry-at Inv-loop μ-loop) where
+  abbrev loop : tie.At-loop Inv-loop μ-loop
+  loop = c .before .before
+
+  abbrev start : tie.Start Inv-loop μ-loop
+  start = loop .before .before .before .before .before
+
 run-cell-requires : tie.Need-run-cell-requires Inv-loop μ-loop
 run-cell-requires c κs =
-    let t = c .before .before .loop in
-    let pre = c .before .before .before .before .before .before .before .pre in
+    let at = c .before .before in
+    let t = loop at .loop in
+    let pre = start at .pre in
     turn-running (pre .0) (t .inv .1) (omega arith) (pre .1)
 
-put-cell-requires : tie.Need-put-cell-requires Inv-loop μ-loop
-put-cell-requires c κs =
+put-entry-requires : tie.Need-put-entry-requires Inv-loop μ-loop
+put-entry-requires c κs =
     let ran = c .before .before .before in
-    let t = ran .before .before .before .loop in
-    let pre = ran .before .before .before .before .before .before .before .before .pre in
-    let small = turn-small (pre .0) (t .inv .1) (omega arith) (ran .run-cell .ensures .0) in
-    (simp (length-take, length-drop) (omega arith), small .0, small .1, small .2)
+    let at = ran .before .before .before in
+    let t = loop at .loop in
+    turn-entry (start at .pre .0) (t .inv .1) (omega arith) (at .entry-at .ensures) (ran .run-cell .ensures .0)
 
 loop-again : tie.Need-loop-again Inv-loop μ-loop
 loop-again c =
     let put = c .before .before in
     let ran = put .before .before .before .before in
-    let t = ran .before .before .before .loop in
-    let pre = ran .before .before .before .before .before .before .before .before .pre in
+    let at = ran .before .before .before in
+    let t = loop at .loop in
     let told = ran .run-cell .ensures in
-    (t .inv .0, turned-next (pre .0) (t .inv .1) (omega arith) (told .0) (put .put-cell .ensures) (told .1))
+    (t .inv .0, turned-next (start at .pre .0) (t .inv .1) (omega arith) (at .entry-at .ensures) (told .0) (put .put-entry .ensures) (told .1))
 
 returns : tie.Need-returns Inv-loop μ-loop
 returns c = turned-all (c .before .loop .inv .1) (omega arith)
@@ -55,15 +63,14 @@ run-cells-spec =
     μ-loop
     (λ c. search needs)
     loop-holds
-    (λ c. search needs)
-    (λ c. search needs)
+    (λ c κs. (shaped, omega arith))
     (λ c. search needs)
     run-cell-requires
     (λ c. search needs)
     (λ c. search needs)
     (λ c. search needs)
     (λ c. search needs)
-    put-cell-requires
+    put-entry-requires
     (λ c. search needs)
     (λ c. search needs)
     loop-again

@@ -5,7 +5,8 @@ use denote.Ref.{now}
 use borrow.Author.Needs.{needs}
 use Rattle.fields.specs.declared.Head.{Head}
 use Rattle.listing.specs.Layout.{horizon}
-use Rattle.forecast.specs.CellYears.{ranBook}
+use Rattle.book.specs.Held.{newBook}
+use Rattle.forecast.specs.Running.{ranCells}
 use Rattle.forecast.proofs.Turn.{clear-ready, clear-all}
 use Rattle.forecast.proofs.run_years.Statement.{statement}
 use Rattle.forecast.proofs.run_years.Tie as tie
@@ -30,10 +31,10 @@ put-year-requires c κs =
     let ran = c .before .before .before .before .before in
     let h = ran .before .before .before .before .before .before .before .before in
     let fits = h .before .before .before .before .pre .fitted in
-    (omega (arith, fits .room), omega (arith, horizon-is h, fits .accepted .head-right .horizon))
+    omega (arith, fits .room)
 
 returns : tie.Need-returns
-unfolding ranBook
+unfolding newBook ranCells
 returns c =
     let issued = c .before .before in
     let year = issued .before .before .before .before in

@@ -8,13 +8,18 @@ use Rattle.ledger.proofs.account_of.Tie as tie
 
 -- what is lost fits the cell
 fits : (c : tie.After-entry) → Fit (c .before .before .head .result) (c .before .cell .result) (c .entry .result .oxidised) (c .entry .result .burned)
-fits c = rw (c .before .before .head .ensures, c .before .cell .ensures, c .entry .ensures) (c .before .before .before .before .before .pre .fit)
+fits c = rw (c .before .before .head .ensures, c .before .cell .ensures, c .entry .ensures) (c .before .before .before .before .before .pre .words-right .fit)
+
+kg-of-requires : tie.Need-kg-of-requires
+kg-of-requires c κs =
+    let cell = c .before .before .before .before in
+    rw (cell .before .head .ensures, cell .cell .ensures, c .words-of .ensures) (cell .before .before .before .before .pre .words-right)
 
 returns : tie.Need-returns
 unfolding accountOf
 returns c =
-    let entry = c .before .before .before in
-    rw (c .emission .ensures, entry .before .before .head .ensures, entry .before .cell .ensures, entry .entry .ensures)
+    let entry = c .before .before .before .before in
+    rw (c .kg-of .ensures, c .before .words-of .ensures, entry .before .before .head .ensures, entry .before .cell .ensures, entry .entry .ensures)
 
 pub account-of-spec : {M : Type 1} → statement M
 account-of-spec =
@@ -25,5 +30,6 @@ account-of-spec =
     (λ c κs. search needs)
     (λ c. omega (arith, fits (c .before) .lost, fits (c .before) .cell-right .entered))
     (λ c. omega (arith, fits (c .before .before) .lost))
-    (λ c κs. fits (c .before .before))
+    (λ c κs. search needs)
+    kg-of-requires
     returns)

@@ -9,7 +9,8 @@ use Rattle.words.proofs.Answers.{need-bad, need-next, said-no, said-yes}
 use Rattle.fields.specs.declared.Head.{Head}
 use Rattle.year.specs.Year.{unconverted}
 use Rattle.year.specs.declared.Entry.{Entry}
-use Rattle.book.specs.Layout.{year, entry}
+use Rattle.book.specs.Current.{entry}
+use Rattle.book.specs.Layout.{year}
 use Rattle.ledger.specs.Calls.{ahead, planChecked}
 use Rattle.ledger.proofs.check_plan.Statement.{statement}
 use Rattle.ledger.proofs.check_plan.Tie as tie

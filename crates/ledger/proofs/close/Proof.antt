@@ -2,7 +2,7 @@
 use borrow.Author.Needs.{needs}
 use Rattle.closing.proofs.Closable.{closable-done}
 use Rattle.ledger.specs.Calls.{closing}
-use Rattle.ledger.proofs.Settle.{settles}
+use Rattle.words.proofs.Left.{settles}
 use Rattle.ledger.proofs.close.Statement.{statement}
 use Rattle.ledger.proofs.close.Tie as tie
 

@@ -1,17 +1,17 @@
 -- `ledger::issue` meets its contract: what is due is answered, and added to what was issued. Assumes nothing.
-use mathlib.Core.Path.{_≡_, ap, ap₂, _∙_}
-use Prim.Native.Nat.{ℕ, _+_, _<_, _^_}
+use mathlib.Core.Path.{_≡_, refl, ap, ap₂, _∙_}
+use Prim.Native.Nat.{_+_, _*_, _<_, _^_}
 use native.Mathlib.Omega.{arith}
-use lib.ListN.{set}
 use denote.Ref.{now}
 use borrow.Author.Needs.{needs}
-use Rattle.book.specs.Layout.{issuedAt, issued, issuedWord}
-use Rattle.book.specs.Sound.{Sound}
-use Rattle.book.proofs.Sound.{sound-done}
+use Rattle.book.specs.Current.{current, issued, withIssued, Sound}
+use Rattle.book.specs.Layout.{issuedWords}
+use Rattle.book.proofs.Sound.{shaped, sound-done}
 use Rattle.balance.specs.Balance.{tonnesDue}
 use Rattle.balance.proofs.Bounds.{issued-fits}
 use Rattle.ledger.specs.Calls.{issueAnswer, issuing}
-use Rattle.ledger.proofs.Settle.{settles, settle-value}
+use Rattle.words.specs.Answers.{accepted}
+use Rattle.words.proofs.Left.{settles, leaves-same, passed-next, passed-next-written}
 use Rattle.ledger.proofs.issue.Statement.{statement}
 use Rattle.ledger.proofs.issue.Tie as tie
 
@@ -21,7 +21,7 @@ module _ (c : tie.After-enum-told) where
   start = c .before .before .before .before .before .before
 
   sound : Sound (now (start .args .listing)) (now (start .args .book))
-  sound = sound-done _ _ _ _ _ (c .before .before .admit .ensures) (c .enum-told .given .1)
+  sound = sound-done current _ _ shaped _ (c .before .before .admit .ensures) (c .enum-told .given .1)
 
 -- what is issued then, and that it fits a word
 sum : (c : tie.After-issued) →
@@ -29,7 +29,7 @@ sum : (c : tie.After-issued) →
     c .issued .result + c .before .before .tonnes-due .result ≡ issued (now (s .args .book)) + tonnesDue (now (s .args .listing)) (now (s .args .book))
 sum c = ap₂ _+_ (c .issued .ensures) (c .before .before .tonnes-due .ensures)
 
-small : (c : tie.After-issued) → c .issued .result + c .before .before .tonnes-due .result < 2 ^ 28
+small : (c : tie.After-issued) → c .issued .result + c .before .before .tonnes-due .result < 2 ^ (28 * issuedWords current)
 small c =
     let told = c .before .before .before .before in
     let s = start told in
@@ -41,9 +41,11 @@ done c =
     let read = c .before .before .before .before in
     let told = read .before .before .before .before in
     let s = start told in
-    settle-value _ _ (told .before .before .admit .ensures) (told .enum-told .given .1) _ _ _ _ _
-    (read .before .before .tonnes-due .ensures)
-    (c .before .before .put-issued .ensures ∙ ap (λ (n : ℕ). set (now (s .args .book)) issuedAt (issuedWord n)) (sum read))
+    let answered = told .before .before .admit .ensures in
+    let passed = told .enum-told .given .1 in
+    leaves-same _ _ _ _ _ _ (passed-next _ _ answered passed _ _ (ap accepted (read .before .before .tonnes-due .ensures)))
+    (passed-next-written _ _ answered passed _ refl _ _ _ (c .before .before .put-issued .ensures ∙ ap (withIssued (now (s .args .book))) (sum read)))
+    refl
 
 refused : tie.Need-returns-2
 unfolding issuing issueAnswer
@@ -56,9 +58,10 @@ issue-spec =
     (λ c κs. search needs)
     (λ c. search needs)
     (λ c κs. sound (c .before))
-    (λ c κs. omega (arith, sound (c .before .before .before) .fitted .room))
+    (λ c κs. (shaped, omega (arith, sound (c .before .before .before) .fitted .room)))
+    (λ c. search needs)
     (λ c. omega (arith, small (c .before)))
-    (λ c κs. (omega (arith, sound (c .before .before .before .before .before) .fitted .room), omega (arith, small (c .before))))
+    (λ c κs. (shaped, omega (arith, sound (c .before .before .before .before .before) .fitted .room), small (c .before)))
     (λ c. search needs)
     (λ c. search needs)
     done

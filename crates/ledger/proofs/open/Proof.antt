@@ -1,8 +1,8 @@
 -- `ledger::open` meets its contract: a book that fits is written, and another is left as it was. Assumes nothing.
 use borrow.Author.Needs.{needs}
-use Rattle.book.proofs.Sound.{fitted-done}
+use Rattle.book.proofs.Sound.{shaped, fitted-done}
 use Rattle.ledger.specs.Calls.{opening}
-use Rattle.ledger.proofs.Settle.{settles}
+use Rattle.words.proofs.Left.{settles}
 use Rattle.ledger.proofs.open.Statement.{statement}
 use Rattle.ledger.proofs.open.Tie as tie
 
@@ -13,7 +13,7 @@ open-spec =
     (tie.spec
     (λ c κs. search needs)
     (λ c. search needs)
-    (λ c κs. search (needs, fitted-done))
+    (λ c κs. search (needs, fitted-done, shaped))
     (λ c. search needs)
     (λ c. search needs)
     (λ c. search settles)

@@ -1,13 +1,14 @@
 -- `ledger::reach` meets its contract: what every call checks comes first. Assumes nothing.
 use borrow.Author.Needs.{needs}
 use Rattle.words.proofs.Answers.{answers}
-use Rattle.book.proofs.Sound.{sound-done}
+use Rattle.book.specs.Current.{current}
+use Rattle.book.proofs.Sound.{shaped, sound-done}
 use Rattle.ledger.specs.Calls.{reached}
 use Rattle.ledger.proofs.reach.Statement.{statement}
 use Rattle.ledger.proofs.reach.Tie as tie
 
 asked : tie.Need-check-cell-requires
-asked c κs = sound-done _ _ _ _ _ (c .before .before .admit .ensures) (c .enum-told .given .1) .fitted .accepted
+asked c κs = sound-done current _ _ shaped _ (c .before .before .admit .ensures) (c .enum-told .given .1) .fitted .accepted
 
 pub reach-spec : {M : Type 1} → statement M
 unfolding reached

@@ -1,16 +1,15 @@
 -- `ledger::withdraw` meets its contract: the mark is written, with the plan year that stood there. Assumes nothing.
 use mathlib.Core.Path.{ap, _∙_}
-use mathlib.Core.Bool.{true}
 use native.Mathlib.Omega.{arith}
-use lib.ListN.{set}
 use denote.Ref.{now}
 use borrow.Author.Needs.{needs}
+use Rattle.words.proofs.Left.{settles, settle-done}
+use Rattle.year.specs.Year.{marked}
 use Rattle.year.specs.declared.Entry.{Entry}
-use Rattle.book.specs.Layout.{entryAt, planWord}
+use Rattle.book.specs.Current.{withPlan}
 use Rattle.ledger.specs.Calls.{withdrawing}
 use Rattle.ledger.specs.Reached.{Reached}
 use Rattle.ledger.proofs.Reached.{standing-done}
-use Rattle.ledger.proofs.Settle.{settles, settle-done}
 use Rattle.ledger.proofs.withdraw.Statement.{statement}
 use Rattle.ledger.proofs.withdraw.Tie as tie
 
@@ -24,17 +23,19 @@ module _ (c : tie.After-enum-told) where
 
 asked : tie.Need-put-plan-requires
 asked c κs =
-    let r = stands (c .before .before .before) in
-    (r .room, omega (arith, ap (λ (e : Entry). e .plan) (c .before .entry .ensures), r .entry-right .plan, r .sound .fitted .accepted .head-right .horizon .1))
+    let entry = c .before .before in
+    let r = stands (entry .before .before) in
+    (r .room, rw (c .marked .ensures) (omega (arith, ap (λ (e : Entry). e .plan) (entry .entry .ensures), r .entry-right .plan, r .sound .fitted .accepted .head-right .horizon .1)))
 
 done : tie.Need-returns
 unfolding withdrawing
 done c =
-    let entry = c .before .before .before .before in
+    let put = c .before .before in
+    let entry = put .before .before .before in
     let told = entry .before .before in
     let s = start told in
     settle-done _ _ (told .before .before .stand .ensures) (told .enum-told .given .1) _ _ _
-    (c .before .before .put-plan .ensures ∙ ap (λ (e : Entry). set (now (s .args .book)) (entryAt (s .args .cell)) (planWord true (e .plan))) (entry .entry .ensures))
+    (put .put-plan .ensures ∙ ap (withPlan (now (s .args .book)) (s .args .cell)) (put .before .marked .ensures ∙ ap marked (entry .entry .ensures)))
 
 pub withdraw-spec : {M : Type 1} → statement M
 unfolding withdrawing
@@ -44,6 +45,7 @@ withdraw-spec =
     (λ c κs. search needs)
     (λ c. search needs)
     (λ c κs. stands (c .before) .room)
+    (λ c κs. search needs)
     asked
     (λ c. search needs)
     (λ c. search needs)

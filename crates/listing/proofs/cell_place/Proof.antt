@@ -5,7 +5,7 @@ use native.Mathlib.Omega.{arith}
 use borrow.Author.Needs.{needs}
 use denote.Ref.{now}
 use Rattle.listing.specs.Layout.{starts, cellWords, cellAt}
-use Rattle.listing.proofs.Accepted.{head-by, cell-by}
+use Rattle.listing.proofs.Accepted.{accepted-sizes, cell-by}
 use Rattle.listing.proofs.cell_place.Statement.{statement}
 use Rattle.listing.proofs.cell_place.Tie as tie
 
@@ -19,7 +19,7 @@ cell-place-spec =
     tie.close
     (tie.spec
     (λ c κs. search needs)
-    (λ c κs. search (needs, head-by))
+    (λ c κs. search (needs, accepted-sizes))
     (λ c. search needs)
     (λ c. omega (arith, here (c .before)))
     (λ c. omega (arith, here (c .before))))

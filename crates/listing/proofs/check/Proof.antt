@@ -2,7 +2,7 @@
 use borrow.Author.Needs.{needs}
 use Rattle.words.proofs.Answers.{answers}
 use Rattle.listing.specs.Check.{checked}
-use Rattle.listing.proofs.Accepted.{head-right-by, in-turn-by, later-by}
+use Rattle.listing.proofs.Accepted.{sizes-by, in-turn-by, later-by}
 use Rattle.listing.proofs.check.Statement.{statement}
 use Rattle.listing.proofs.check.Tie as tie
 
@@ -28,6 +28,6 @@ check-spec =
     (λ c κs. search needs)
     (λ c. search answers depth 8)
     (λ c κs. search needs)
-    (λ c κs. search (answers, head-right-by))
-    (λ c κs. search (answers, head-right-by, in-turn-by))
+    (λ c κs. search (answers, sizes-by))
+    (λ c κs. search (answers, sizes-by, in-turn-by))
     later)

@@ -5,7 +5,7 @@ use native.Mathlib.Omega.{arith}
 use borrow.Author.Needs.{needs}
 use denote.Ref.{now}
 use Rattle.listing.specs.Layout.{starts, rowAt}
-use Rattle.listing.proofs.Accepted.{head-by, row-by}
+use Rattle.listing.proofs.Accepted.{accepted-sizes, row-by}
 use Rattle.listing.proofs.row_place.Statement.{statement}
 use Rattle.listing.proofs.row_place.Tie as tie
 
@@ -24,7 +24,7 @@ row-place-spec =
     tie.close
     (tie.spec
     (λ c κs. search needs)
-    (λ c κs. search (needs, head-by))
+    (λ c κs. search (needs, accepted-sizes))
     (λ c. omega (arith, here (c .before)))
     (λ c. omega (arith, here (c .before)))
     (λ c. omega (arith, here (c .before .before)))

@@ -1,23 +1,23 @@
 -- `peatrun::left` meets its contract: in turn i the sum is that of the first i cells, below 2 ^ 32 each. Assumes nothing.
-use mathlib.Core.Path.{_≡_, refl, ap}
+use mathlib.Core.Path.{_≡_, ap}
 use mathlib.Core.List.{List}
 use Prim.Native.Nat.{ℕ, _-_, _*_, _^_, _≤_, _<_}
-use native.Mathlib.Numerals.{add-one}
 use native.Mathlib.Omega.{arith}
 use denote.Ref.{now}
 use borrow.Author.Needs.{needs}
+use Rattle.words.specs.Sums.{sumBelow}
+use Rattle.words.proofs.Sums.{sum-none, sum-next}
 use Rattle.fields.specs.declared.Head.{Head}
 use Rattle.listing.specs.Layout.{cells, cell}
 use Rattle.year.specs.Year.{remaining}
-use Rattle.book.specs.Layout.{entry}
-use Rattle.balance.specs.Balance.{overCells}
+use Rattle.book.specs.Current.{entry}
 use Rattle.peatrun.specs.Years.{left}
 use Rattle.peatrun.proofs.Years.{opened-long}
 use Rattle.peatrun.proofs.left.Statement.{statement}
 use Rattle.peatrun.proofs.left.Tie as tie
 
 abbrev Inv-loop : tie.InvT-loop
-Inv-loop listing book cells sum₀ i₀ sum i = (i ≤ cells) × (cells < 2 ^ 32) × (sum ≤ 2 ^ 32 * i) × (sum ≡ overCells (λ i. remaining (cell listing i) (entry book i)) i)
+Inv-loop listing book cells sum₀ i₀ sum i = (i ≤ cells) × (cells < 2 ^ 32) × (sum ≤ 2 ^ 32 * i) × (sum ≡ sumBelow (λ i. remaining (cell listing i) (entry book i)) i)
 
 abbrev μ-loop : tie.MeasureT-loop
 μ-loop listing book cells sum₀ i₀ sum i = cells - i
@@ -33,17 +33,15 @@ module _ (a : tie.At-loop Inv-loop μ-loop) where
   count = ap (λ (h : Head). h .cells) (a .before .before .head .ensures)
 
 loop-holds : tie.Need-loop-holds Inv-loop μ-loop
-unfolding overCells
-loop-holds c = (omega arith, omega arith, omega arith, refl)
+loop-holds c = (omega arith, omega arith, omega arith, sum-none _)
 
 remaining-requires : tie.Need-remaining-requires Inv-loop μ-loop
 remaining-requires c κs = (start (c .before) .pre, omega (arith, count (c .before), c .loop-test .taken))
 
 loop-again : tie.Need-loop-again Inv-loop μ-loop
-unfolding overCells
 loop-again c =
     let t = c .before .before .loop in
-    (omega arith, omega arith, omega arith, rw (add-one, t .inv .3, c .remaining .ensures))
+    (omega arith, omega arith, omega arith, sum-next _ (t .i) (t .inv .3) (c .remaining .ensures))
 
 returns : tie.Need-returns Inv-loop μ-loop
 unfolding left

@@ -7,7 +7,7 @@ use denote.Ref.{now}
 use borrow.Author.Needs.{needs}
 use Rattle.words.proofs.Signed.{call-reads}
 use Rattle.terms.specs.Terms.{counted, total}
-use Rattle.listing.proofs.Accepted.{head-by, terms-by}
+use Rattle.listing.proofs.Accepted.{accepted-sizes, terms-by}
 use Rattle.terms.proofs.terms_to_date.Statement.{statement}
 use Rattle.terms.proofs.terms_to_date.Tie as tie
 
@@ -24,4 +24,4 @@ returns c =
     ∙ ap (λ (k : ℕ). total (counted (s .args .year) (s .args .last)) (drop k (now (s .args .listing)))) (t .0)
 
 pub terms-to-date-spec : {M : Type 1} → statement M
-terms-to-date-spec = tie.close (tie.spec (λ c κs. search needs) (λ c κs. search (needs, head-by)) terms-from-requires returns)
+terms-to-date-spec = tie.close (tie.spec (λ c κs. search needs) (λ c κs. search (needs, accepted-sizes)) terms-from-requires returns)

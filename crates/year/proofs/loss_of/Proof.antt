@@ -1,62 +1,45 @@
--- `year::loss_of` meets its contract: no more is lost than is left, so both emissions fit, and the second is no less. Assumes nothing.
+-- `year::loss_of` meets its contract: no more is lost than is left, so the emission after the year fits, and is no less than that before it.
+-- Assumes nothing.
 use borrow.Author.Needs.{needs}
 use native.Mathlib.Omega.{arith}
-use mathlib.Core.Path.{_≡_, ap, _∙_}
 use Prim.Native.Nat.{_+_, _≤_}
-use Rattle.year.specs.Year.{drained, remaining, oxidisedBy, fire}
-use Rattle.year.proofs.Laws.{oxidises, lost-within, loss-by, emission-grows}
+use Rattle.year.proofs.Laws.{lost-within, loss-by, emission-grows}
 use Rattle.year.proofs.loss_of.Statement.{statement}
 use Rattle.year.proofs.loss_of.Tie as tie
 
--- the two losses, and what is lost with them
-module _ (c : tie.After-oxidised-by) where
-  abbrev s : tie.Start
-  s = c .before .before .before .before .before
-
-  burns : c .before .burned-by .result ≡ fire (s .args .h) (s .args .c) (s .args .r) (s .args .e)
-  burns = c .before .burned-by .ensures
-
-  wastes : c .oxidised-by .result ≡ oxidises (s .args .h) (s .args .c) (s .args .r) (s .args .e)
-  wastes = c .oxidised-by .ensures ∙ ap (oxidisedBy (drained (s .args .r)) (s .args .r .oxidation) (remaining (s .args .c) (s .args .e))) burns
-
-  within : (s .args .e .oxidised + c .oxidised-by .result) + (s .args .e .burned + c .before .burned-by .result) ≤ s .args .c .entered
-  within = omega (arith, wastes, burns, lost-within (s .args .h) (s .args .c) (s .args .r) (s .args .e) (s .pre .0 .lost))
+-- what is lost with the year's mm
+within : (c : tie.After-mm-of) → (c .before .args .e .oxidised + c .mm-of .result .oxidised) + (c .before .args .e .burned + c .mm-of .result .burned) ≤ c .before .args .c .entered
+within c = let a = c .before .args in rw (c .mm-of .ensures) (lost-within (a .h) (a .c) (a .r) (a .e) (c .before .pre .0 .lost))
 
 add-emission : tie.Need-add-emission
-add-emission c = let most = s (c .before .before) .pre .0 .cell-right .entered in omega (arith, within (c .before .before))
+add-emission c =
+    let m = c .before .before in
+    let most = m .before .pre .0 .cell-right .entered in
+    omega (arith, within m)
 
 add-emission-2 : tie.Need-add-emission-2
-add-emission-2 c = let most = s (c .before .before .before) .pre .0 .cell-right .entered in omega (arith, within (c .before .before .before))
+add-emission-2 c =
+    let m = c .before .before .before .before in
+    let most = m .before .pre .0 .cell-right .entered in
+    omega (arith, within m)
 
-emission-requires-2 : tie.Need-emission-requires-2
-emission-requires-2 c κs =
-    let fit = s (c .before .before .before) .pre .0 in
-    record { head-right = fit .head-right; cell-right = fit .cell-right; lost = within (c .before .before .before) }
+emission-requires : tie.Need-emission-requires
+emission-requires c κs =
+    let m = c .before .before .before .before in
+    let fit = m .before .pre .0 in
+    record { head-right = fit .head-right; cell-right = fit .cell-right; lost = within m }
 
-sub-t11 : tie.Need-sub-t11
-sub-t11 c =
-    let x = c .before .before .before .before in
-    let a = s x .args in
-    omega (arith, c .emission2 .ensures, c .before .before .before .emission .ensures, emission-grows (a .h) (a .c) (a .e .oxidised) (a .e .burned) (x .oxidised-by .result) (x .before .burned-by .result))
+sub-t8 : tie.Need-sub-t8
+sub-t8 c =
+    let m = c .before .before .before .before .before in
+    let a = m .before .args in
+    omega (arith, c .emission .ensures, m .before .pre .2, emission-grows (a .h) (a .c) (a .e .oxidised) (a .e .burned) (m .mm-of .result .oxidised) (m .mm-of .result .burned))
 
 returns : tie.Need-returns
 returns c =
-    let x = c .before .before .before .before in
-    let a = s x .args in
-    loss-by (a .h) (a .c) (a .r) (a .e) _ _ _ _ (wastes x) (burns x) (c .before .before .before .emission .ensures) (c .emission2 .ensures)
+    let m = c .before .before .before .before .before in
+    let a = m .before .args in
+    loss-by (a .h) (a .c) (a .r) (a .e) _ _ _ (m .mm-of .ensures) (m .before .pre .2) (c .emission .ensures)
 
 pub loss-of-spec : {M : Type 1} → statement M
-loss-of-spec =
-    tie.close
-    (tie.spec
-    (λ c. search needs)
-    (λ c. search needs)
-    (λ c. search needs)
-    (λ c κs. search needs)
-    (λ c κs. search needs)
-    (λ c κs. search needs)
-    add-emission
-    add-emission-2
-    emission-requires-2
-    sub-t11
-    returns)
+loss-of-spec = tie.close (tie.spec (λ c κs. search needs) add-emission add-emission-2 emission-requires sub-t8 returns)

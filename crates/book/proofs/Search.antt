@@ -1,0 +1,60 @@
+-- The search of a book's cells: what the tests of cell i's own words say of the words of the book. Assumes nothing.
+use mathlib.Core.Path.{_≡_, refl, sym}
+use mathlib.Core.Bool.{Bool, true, _&&_}
+use mathlib.Core.List.{List}
+use Prim.Native.Nat.{ℕ, _+_, _≤_, _<_}
+use native.Mathlib.Nat.{mul-zero}
+use native.Mathlib.Omega.{arith}
+use lib.ListN.{length}
+use Rattle.words.specs.Search.{firstWrong}
+use Rattle.words.proofs.Steps.{Passed, passed-none, Clean, clean-none}
+use Rattle.fields.specs.declared.Head.{Head}
+use Rattle.fields.specs.declared.Cell.{Cell}
+use Rattle.listing.specs.Layout.{head, cells, cell}
+use Rattle.book.specs.Layout.{Sized, entryAt, bookSize, wordsOf}
+use Rattle.book.specs.Check.{entryRight, bookRight}
+use Rattle.book.specs.Sound.{Fitted, Room, All}
+use Rattle.book.specs.declared.Shape.{Shape}
+use Rattle.book.proofs.Places.{next-entry, entry-before}
+use Rattle.book.proofs.Parts.{part-stop, part-more, part-clean}
+use Rattle.book.proofs.Right.{right-entry}
+use Rattle.book.proofs.Sound.{fitted-room, words-sized, words-right}
+
+module _ {s : Shape} {l b : List ℕ} {h : Head} {end : ℕ} (f : Fitted s l b) (same : h ≡ head l) (last : end ≡ bookSize s (cells l)) where
+  -- before the first cell
+  first : s .head ≡ entryAt s 0
+  first = omega (arith, mul-zero (s .entry))
+
+  pub cells-begin : Passed (bookRight s l b) (s .head) end (entryAt s 0)
+  cells-begin = rw (← first) passed-none
+
+  pub cells-begin-clean : Clean (bookRight s l b) (s .head) end (entryAt s 0) true
+  cells-begin-clean = rw (← first) clean-none
+
+  -- cell i, with the cell c and the words w that were read
+  module _ (i : ℕ) (c : Cell) (w : List ℕ) (lt : i < cells l) (own : c ≡ cell l i) (part : w ≡ wordsOf s b i) where
+    pub cell-room : Room s b i
+    cell-room = fitted-room s l b f i lt
+
+    pub cell-sized : Sized (length w)
+    cell-sized = rw part (words-right s b i cell-room)
+
+    within : entryAt s i + s .entry ≤ end
+    within = omega (arith, entry-before s i (cells l) lt)
+
+    -- the search of its own words found j
+    module _ (j : ℕ) (p : Passed (bookRight s l b) (s .head) end (entryAt s i)) (e : j ≡ firstWrong (entryRight h c w) 0 (length w)) where
+      found : j ≡ firstWrong (entryRight (head l) (cell l i) (wordsOf s b i)) 0 (s .entry)
+      found = rw (same, own, part, words-sized s b i cell-room) at e
+
+      pub cell-stop : j < s .entry → entryAt s i + j ≡ firstWrong (bookRight s l b) (s .head) end
+      cell-stop = part-stop (bookRight s l b) (s .head) end (entryRight (head l) (cell l i) (wordsOf s b i)) (s .entry) within (right-entry s l b i) j p found (entryAt s i + j) refl
+
+      pub cell-more : s .entry ≤ j → Passed (bookRight s l b) (s .head) end (entryAt s (i + 1))
+      cell-more = part-more (bookRight s l b) (s .head) end (entryRight (head l) (cell l i) (wordsOf s b i)) (s .entry) within (right-entry s l b i) j p found (entryAt s (i + 1)) (sym (next-entry s i))
+
+    -- its words were tested together, by `good`
+    pub cell-clean : (clean good : Bool) → Clean (bookRight s l b) (s .head) end (entryAt s i) clean → (good ≡ true → All (entryRight h c w) (length w)) → Clean (bookRight s l b) (s .head) end (entryAt s (i + 1)) (clean && good)
+    cell-clean clean good p all =
+        part-clean (bookRight s l b) (s .head) end (entryRight (head l) (cell l i) (wordsOf s b i)) (s .entry) within (right-entry s l b i) clean good (entryAt s (i + 1)) (sym (next-entry s i)) p
+        (λ t. rw (same, own, part, words-sized s b i cell-room) at (all t))

@@ -1,0 +1,76 @@
+-- Words beyond those needed are untouched by every call. Assumes nothing.
+use mathlib.Core.Path.{_≡_, refl, _∙_}
+use mathlib.Core.Bool.{Bool, true, false}
+use mathlib.Core.List.{List}
+use Prim.Native.Nat.{ℕ, _+_, _*_, _≤_}
+use native.Mathlib.Nat.{zero-add}
+use native.Mathlib.Omega.{arith}
+use lib.ListN.{length, length-set}
+use lib.Seq.{getD-set-other}
+use Rattle.words.specs.Answers.{Answer}
+use Rattle.words.specs.Blocks.{filled}
+use Rattle.words.specs.Left.{written}
+use Rattle.words.proofs.Blocks.{length-filled, filled-behind}
+use Rattle.words.proofs.Left.{written-new, written-old}
+use Rattle.words.proofs.Signed.{by-test}
+use Rattle.listing.specs.Layout.{cells}
+use Rattle.year.specs.Year.{planned, marked}
+use Rattle.year.specs.declared.Entry.{Entry}
+use Rattle.book.specs.Current.{current, bookSize, entry, withPlan}
+use Rattle.book.specs.Layout.{lineWords, issuedAt, issuedWords, issuedKind, yearAt, yearKind, year, stored}
+use Rattle.book.proofs.Numbers.{length-stored, stored-outside}
+use Rattle.book.proofs.Places.{entry-before}
+use Rattle.closing.specs.Closing.{closedWords, closedLines, bookAfter, linesAfter, closeAnswer}
+use Rattle.closing.specs.Closable.{Closable}
+use Rattle.closing.proofs.Closable.{closable}
+use Rattle.closing.proofs.Turn.{closed-sized, lines-sized}
+use Rattle.ledger.specs.Calls.{standing, replanAnswer, replanning, withdrawing, issueAnswer, issuing, closing, Close, Replan, Withdraw, Issue, Beyond, EveryUntouched}
+use Rattle.ledger.specs.Reached.{Reached}
+use Rattle.ledger.proofs.Reached.{standing-says, replan-says}
+
+-- nothing written
+same : (n : ℕ) (x : List ℕ) → Beyond n x x
+same n x = record { length-is = refl; words-are = λ k le. refl }
+
+-- by the answer: what was written, or nothing
+settled : (n : ℕ) (a : Answer) (old new : List ℕ) → (a .done ≡ true → Beyond n old new) → Beyond n old (written a old new)
+settled n a old new kept =
+    by-test (λ (t : Bool). Beyond n old (written a old new)) (a .done) true false (λ e. rw (written-new a old new e) (kept e)) (λ e. rw (written-old a old new e) (same n old))
+
+-- a number stored before place n, and blocks
+stored-beyond : (n : ℕ) (x : List ℕ) (kind from m v : ℕ) → from + m ≤ n → Beyond n x (stored kind x from m v)
+stored-beyond n x kind from m v le = record { length-is = length-stored kind from m v x; words-are = λ k far. stored-outside kind from m v k x (λ _. omega arith) }
+
+filled-beyond : (size : ℕ) (x : List ℕ) (at : ℕ) (f : ℕ → List ℕ) (count : ℕ) → ((i : ℕ) → length (f i) ≡ size) → at + size * count ≤ length x → Beyond (at + size * count) x (filled size x at f count)
+filled-beyond size x at f count sized room =
+    record { length-is = length-filled size x at f sized (omega arith) count room; words-are = λ k far. filled-behind size x at f sized (omega arith) count k far }
+
+both : {n : ℕ} {x y z : List ℕ} → Beyond n x y → Beyond n y z → Beyond n x z
+both p q = record { length-is = q .length-is ∙ p .length-is; words-are = λ k far. q .words-are k far ∙ p .words-are k far }
+
+module _ (l b : List ℕ) where
+  planned-beyond : (i : ℕ) (e : Entry) → Reached l b i → Beyond (bookSize (cells l)) b (withPlan b i e)
+  planned-beyond i e r =
+      let here = entry-before current i (cells l) (r .there) in
+      record { length-is = length-set b _ _; words-are = λ k far. getD-set-other b _ k _ 0 (λ q. omega arith) }
+
+  module _ (size : ℕ) (k : Closable l b size) where
+    closed-beyond : Beyond (bookSize (cells l)) b (bookAfter l b)
+    unfolding bookAfter
+    closed-beyond = both (filled-beyond (current .entry) b (current .head) (closedWords l b) (cells l) (closed-sized l b) (k .sound .fitted .room)) (stored-beyond (bookSize (cells l)) _ yearKind yearAt 1 (year b + 1) (omega arith))
+
+    lines-beyond : (x : List ℕ) → length x ≡ size → Beyond (lineWords * cells l) x (linesAfter l b x)
+    unfolding linesAfter
+    lines-beyond x e = rw zero-add at (filled-beyond lineWords x 0 (closedLines l b) (cells l) (lines-sized l b) (omega (arith, k .room)))
+
+pub every-untouched : EveryUntouched
+unfolding closing replanning withdrawing issuing
+every-untouched l b (Close x) =
+    let a = closeAnswer l b (length x) in
+    record {
+      book = settled _ a b (bookAfter l b) (λ e. closed-beyond l b (length x) (closable l b (length x) e));
+      lines = settled _ a x (linesAfter l b x) (λ e. lines-beyond l b (length x) (closable l b (length x) e) x refl);
+    }
+every-untouched l b (Replan i y) = record { book = settled _ (replanAnswer l b i y) b _ (λ e. planned-beyond l b i (planned (entry b i) y) (replan-says l b i y e .0)); lines = same _ _ }
+every-untouched l b (Withdraw i) = record { book = settled _ (standing l b i) b _ (λ e. planned-beyond l b i (marked (entry b i)) (standing-says l b i e)); lines = same _ _ }
+every-untouched l b Issue = record { book = settled _ (issueAnswer l b) b _ (λ e. stored-beyond (bookSize (cells l)) b issuedKind issuedAt (issuedWords current) _ (omega arith)); lines = same _ _ }

@@ -1,0 +1,2 @@
+-- What is proved of the order of the cells.
+pub mod Order

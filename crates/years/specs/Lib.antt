@@ -1,0 +1,2 @@
+-- A cell's years, and the book that holds them.
+pub mod Years
