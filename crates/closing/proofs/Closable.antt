@@ -21,7 +21,7 @@ use Rattle.year.specs.Year.{rests, age, lossOf, none, mostLine, yearLoss, grown
 use Rattle.year.specs.Fit.{Fit}
 use Rattle.year.specs.declared.Entry.{Entry}
 use Rattle.year.specs.declared.Loss.{Loss}
-use Rattle.year.proofs.Laws.{active, converted, loss-active, loss-rests, most-entered, year-most, year-kg-most}
+use Rattle.year.proofs.Laws.{active, converted, loss-active, loss-rests, grown-none, most-entered, year-most, year-kg-most}
 use Rattle.book.specs.Current.{current, entry, fitted, bookChecked, admitted, Sound}
 use Rattle.book.specs.Layout.{Sized, lineWords, year, entryOf}
 use Rattle.book.specs.Sound.{Storable, EntryRight, WordsRight}
@@ -52,27 +52,26 @@ module _ {l : List ℕ} {h : Head} {c : Cell} {e : Entry} {t : ℕ} (g : Losing 
   pub losing-fit : Fit h c (e .oxidised) (e .burned)
   losing-fit = rw (g .head-is) (record { head-right = g .accepted .head-right; cell-right = g .cell-right; lost = g .entry-right .lost })
 
-  -- b is what its call answered whether it rests
-  module _ (b : Bool) (b-is : b ≡ rests h c e t) where
-    rests-is : b ≡ rests (head l) c e t
-    rests-is = rw (g .head-is) at b-is
+  -- where it rests
+  pub resting-loss : rests h c e t ≡ true → none ≡ yearLoss (head l) (row l) c e t
+  resting-loss q = sym (loss-rests (head l) (row l) c e t (rw (g .head-is) at q))
 
-    pub asleep-loss : b ≡ true → none ≡ yearLoss (head l) (row l) c e t
-    asleep-loss q = sym (loss-rests (head l) (row l) c e t (sym rests-is ∙ q))
+  -- where it does not, its table has a row for its age
+  module _ (q : rests h c e t ≡ false) where
+    active-is : rests (head l) c e t ≡ false
+    active-is = rw (g .head-is) at q
 
-    -- if it does not rest, its table has a row for its age
-    module _ (q : b ≡ false) where
-      pub awake-age : (e .plan ≤ t) × (c .stratum < strata l) × (1 ≤ age (e .plan) t) × (age (e .plan) t ≤ horizon l)
-      awake-age =
-          let p = converted (e .plan) t (active (head l) c e t (sym rests-is ∙ q) .0) in
-          let time = g .in-time in
-          (p .1, g .cell-right .stratum, omega arith, omega arith)
+    pub active-age : (e .plan ≤ t) × (c .stratum < strata l) × (1 ≤ age (e .plan) t) × (age (e .plan) t ≤ horizon l)
+    active-age =
+        let p = converted (e .plan) t (active (head l) c e t active-is .0) in
+        let time = g .in-time in
+        (p .1, g .cell-right .stratum, omega arith, omega arith)
 
-      pub awake-row : (r : Row) → r ≡ row l (c .stratum) (age (e .plan) t) → RowRight r
-      awake-row r r-is = rw r-is (g .accepted .row-right (c .stratum) (age (e .plan) t))
+    pub active-row : (r : Row) → r ≡ row l (c .stratum) (age (e .plan) t) → RowRight r
+    active-row r r-is = rw r-is (g .accepted .row-right (c .stratum) (age (e .plan) t))
 
-      pub awake-loss : (r : Row) → r ≡ row l (c .stratum) (age (e .plan) t) → (s : Loss) → s ≡ lossOf h c r e → s ≡ yearLoss (head l) (row l) c e t
-      awake-loss r r-is s s-is = (rw (r-is, g .head-is) at s-is) ∙ sym (loss-active (head l) (row l) c e t (sym rests-is ∙ q))
+    pub active-loss : (r : Row) → r ≡ row l (c .stratum) (age (e .plan) t) → (s : Loss) → s ≡ lossOf h c r e → s ≡ yearLoss (head l) (row l) c e t
+    active-loss r r-is s s-is = (rw (r-is, g .head-is) at s-is) ∙ sym (loss-active (head l) (row l) c e t active-is)
 
 -- a cell's own words w, which the step was lent: c is the cell and e the entry that it read
 module _ {l : List ℕ} {h : Head} {t : ℕ} (i : ℕ) (w : List ℕ) (g : Losing l h (cell l i) (entryOf w) t) (c : Cell) (c-is : c ≡ cell l i) (e : Entry) (e-is : e ≡ entryOf w) where
@@ -81,6 +80,15 @@ module _ {l : List ℕ} {h : Head} {t : ℕ} (i : ℕ) (w : List ℕ) (g : Losin
 
   pub step-words : Sized (length w) → WordsRight h c w
   step-words sized = record { sized = sized; fit = rw (← e-is) (losing-fit step-losing) }
+
+  -- where it rests its entry stays
+  pub step-rests : rests h c e t ≡ true → (none ≡ cellLoss l t i (entryOf w)) × (e ≡ grown (entryOf w) (cellLoss l t i (entryOf w)))
+  step-rests q =
+      let nothing = rw (c-is, e-is) at (resting-loss step-losing q) in
+      (nothing, e-is ∙ rw (← nothing) (sym (grown-none (entryOf w))))
+
+  pub step-kept : Storable e
+  step-kept = let g′ = step-losing in right-storable (g′ .accepted .head-right) (g′ .cell-right) e (g′ .entry-right)
 
   -- s is the loss that it was told
   module _ (s : Loss) (s-is : s ≡ yearLoss (head l) (row l) c e t) where

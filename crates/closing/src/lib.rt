@@ -1,12 +1,13 @@
 // The closing of a year: the tests decide, and only then is anything written, cell by cell.
 ghost use mathlib.Core.Path.{_≡_};
+ghost use mathlib.Core.Bool.{false};
 ghost use Prim.Native.Nat.{_+_, _<_, _≤_};
 ghost use lib.ListN.{length};
 ghost use Rattle.words.specs.Blocks.{filled};
 ghost use Rattle.words.specs.Answers.{outcome, after};
 ghost use Rattle.listing.specs.Layout.{head, cells, row, cell};
 ghost use Rattle.listing.specs.Accepted.{Accepted};
-ghost use Rattle.year.specs.Year.{kgOf, yearLoss, grown};
+ghost use Rattle.year.specs.Year.{rests, kgOf, yearLoss, grown};
 ghost use Rattle.book.specs.Current.{current, bookChecked, Fitted, Sound};
 ghost use Rattle.book.specs.Layout.{Sized, lineWords, entryOf, heldWords, linesOf};
 ghost use Rattle.closing.specs.Closing.{cellLoss, closedWords, bookAfter, linesAfter, linesChecked, mostNumber, yearChecked, closeAnswer};
@@ -26,22 +27,26 @@ use words::word;
 use year::Entry;
 use year::Loss;
 
-// What a cell loses in `year`, by its own entry and the row of its own stratum and age. `before` is
-// its kg to date.
+// What a cell that does not rest loses in `year`, by its own entry and the row of its own stratum and
+// age. `before` is its kg to date.
+fn active_loss(listing: &[u32], h: Head, c: Cell, e: Entry, before: u32, year: u32) -> Loss
+    requires { ⌜ Losing (now listing) h c e year × (rests h c e year ≡ false) × (before ≡ kgOf h c e) ⌝ }
+    ensures { λ s. ⌜ s ≡ yearLoss (head (now (listing .entry))) (row (now (listing .entry))) c e year ⌝ }
+{
+    let age = year - e.plan + 1;
+    let r = listing::row(listing, c.stratum, age);
+    year::loss_of(h, c, r, e, before)
+}
+
+// What a cell loses in `year`, nothing where it rests. `before` is its kg to date.
 pub fn cell_loss(listing: &[u32], h: Head, c: Cell, e: Entry, before: u32, year: u32) -> Loss
     requires { ⌜ Losing (now listing) h c e year × (before ≡ kgOf h c e) ⌝ }
     ensures { λ s. ⌜ s ≡ yearLoss (head (now (listing .entry))) (row (now (listing .entry))) c e year ⌝ }
 {
     if year::rests(h, c, e, year) {
-        return Loss {
-            oxidised: 0,
-            burned: 0,
-            kg: 0,
-        };
+        return year::no_loss();
     }
-    let age = year - e.plan + 1;
-    let r = listing::row(listing, c.stratum, age);
-    year::loss_of(h, c, r, e, before)
+    active_loss(listing, h, c, e, before, year)
 }
 
 // Number 9, for a right book. Number 14 comes after it, and is proved not to arise: no kg line is
@@ -100,7 +105,8 @@ pub fn may_close(listing: &[u32], book: &[u32], room: usize) -> Outcome
     }
 }
 
-// Closes cell `i`, whose own words are lent: adds the year's mm to its mm to date.
+// Closes cell `i`, whose own words are lent: adds the year's mm to its mm to date. The kg to date of a
+// cell that rests are not worked out.
 fn close_cell(entry: &mut [u32], listing: &[u32], h: Head, i: usize, year: u32) -> Loss
     requires { ⌜ Sized (length (now entry)) × (i < cells (now listing)) × Losing (now listing) h (cell (now listing) i) (entryOf (now entry)) year ⌝ }
     ensures { λ s. ⌜ s ≡ cellLoss (now (listing .entry)) year i (entryOf (now (entry .entry))) ⌝ }
@@ -108,8 +114,13 @@ fn close_cell(entry: &mut [u32], listing: &[u32], h: Head, i: usize, year: u32) 
 {
     let e = book::entry_of(&entry[..]);
     let c = listing::cell(listing, i);
+    let resting = year::rests(h, c, e, year);
+    if resting {
+        book::put_entry(entry, e);
+        return year::no_loss();
+    }
     let before = book::kg_of(h, c, &entry[..]);
-    let s = cell_loss(listing, h, c, e, before, year);
+    let s = active_loss(listing, h, c, e, before, year);
     book::put_entry(entry, year::grown(e, s));
     s
 }

@@ -12,7 +12,7 @@ use Rattle.fields.specs.Right.{HeadRight, RowRight, CellRight}
 use Rattle.fields.specs.declared.Head.{Head}
 use Rattle.fields.specs.declared.Row.{Row}
 use Rattle.fields.specs.declared.Cell.{Cell}
-use Rattle.year.specs.Year.{unconverted, rests, age, drained, remaining, burnedBy, oxidisedBy, fire, mmOf, noMm, yearMm, emission, kgOf, lossOf, yearLoss, none, mostLine, mostEmission, mostLoss}
+use Rattle.year.specs.Year.{unconverted, rests, age, drained, remaining, burnedBy, oxidisedBy, fire, mmOf, noMm, yearMm, emission, kgOf, lossOf, yearLoss, none, mostLine, mostEmission, mostLoss, grown}
 use Rattle.year.specs.Fit.{Fit, SameFigures}
 use Rattle.year.specs.declared.Entry.{Entry}
 use Rattle.year.specs.declared.Depths.{Depths}
@@ -56,6 +56,10 @@ module _ {h : Head} {c : Cell} {o b : ℕ} (fit : Fit h c o b) where
   unfolding emission
   emission-most = omega (arith, fit-weight)
 
+-- nothing lost leaves an entry as it was
+pub grown-none : (e : Entry) → grown e none ≡ e
+grown-none e = rw (add-zero (e .oxidised), add-zero (e .burned))
+
 -- nothing lost is nothing emitted
 pub emission-none : (h : Head) (c : Cell) → emission h c 0 0 ≡ 0
 unfolding emission
@@ -79,7 +83,7 @@ module _ (h : Head) (c : Cell) (o b o′ b′ : ℕ) where
 
 -- ---- a year's two losses, by the figures of a row
 module _ (guard d b left : ℕ) where
-  burned-least : (burnedBy guard d b left ≤ b) × (burnedBy guard d b left ≤ left) × (burnedBy guard d b left ≤ d - guard)
+  pub burned-least : (burnedBy guard d b left ≤ b) × (burnedBy guard d b left ≤ left) × (burnedBy guard d b left ≤ d - guard)
   unfolding burnedBy
   burned-least = (omega arith, omega arith, omega arith)
 

@@ -1,8 +1,8 @@
 // A cell's year: what burns, what oxidises, and what both emit.
 ghost use mathlib.Core.Path.{_≡_};
-ghost use Prim.Native.Nat.{_+_, _-_, _^_, _<_, min};
+ghost use Prim.Native.Nat.{_+_, _-_, _^_, _<_, _≤_, min};
 ghost use Rattle.fields.specs.Right.{RowRight};
-ghost use Rattle.year.specs.Year.{unconverted, rests, burnedBy, oxidisedBy, emission, kgOf, mmOf, lossOf, opened, grown, planned, marked, mostLoss};
+ghost use Rattle.year.specs.Year.{unconverted, rests, burnedBy, oxidisedBy, emission, kgOf, mmOf, lossOf, none, opened, grown, planned, marked, mostLoss};
 ghost use Rattle.year.specs.Fit.{Fit};
 use fields::Cell;
 use fields::Head;
@@ -114,9 +114,10 @@ fn burned_by(guard: u32, d: u32, b: u32, left: u32) -> u32
 
 // What oxidises of what the fire leaves, down to the water.
 fn oxidised_by(d: u32, o: u32, left: u32, burned: u32) -> u32
+    requires { ⌜ (burned ≤ left) × (burned ≤ d) ⌝ }
     ensures { λ r. ⌜ r ≡ oxidisedBy d o left burned ⌝ }
 {
-    least(o, least(above(left, burned), above(d, burned)))
+    least(o, least(left - burned, d - burned))
 }
 
 // The emission to date of so much oxidised and burned, in kg. The products are made in u64.
@@ -128,6 +129,17 @@ pub fn emission(h: Head, c: Cell, oxidised: u32, burned: u32) -> u32
     let lost = 11000 * (oxidised as u64 + burned as u64);
     let methane = 4 * h.warming as u64 * h.methane as u64 * burned as u64;
     (k * (lost + methane) / 30000000) as u32
+}
+
+// What a cell that rests loses.
+pub fn no_loss() -> Loss
+    ensures { λ s. ⌜ s ≡ none ⌝ }
+{
+    Loss {
+        oxidised: 0,
+        burned: 0,
+        kg: 0,
+    }
 }
 
 // The mm that a cell that does not rest loses, by its row of the table: the fire comes first.

@@ -6,7 +6,7 @@ use Rattle.year.proofs.oxidised_by.Tie as tie
 
 returns : tie.Need-returns
 unfolding oxidisedBy
-returns c = rw (c .least2 .ensures, c .before .least .ensures, c .before .before .above2 .ensures, c .before .before .before .above .ensures)
+returns c = rw (c .least2 .ensures, c .before .least .ensures)
 
 pub oxidised-by-spec : {M : Type 1} → statement M
-oxidised-by-spec = tie.close (tie.spec (λ c κs. search needs) (λ c κs. search needs) (λ c κs. search needs) (λ c κs. search needs) returns)
+oxidised-by-spec = tie.close (tie.spec (λ c. search needs) (λ c. search needs) (λ c κs. search needs) (λ c κs. search needs) returns)
