@@ -21,7 +21,7 @@ fn kg_to_date(listing: &[u32], book: &[u32]) -> u64
     let mut kg: u64 = 0;
     let mut i: usize = 0;
     while i < cells {
-        let c = listing::cell(listing, i);
+        let c = listing::cell(listing, h, i);
         kg += book::kg_of(h, c, book::words_of(BOOK, book, i)) as u64;
         i += 1;
     }

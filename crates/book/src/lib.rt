@@ -156,7 +156,7 @@ fn cells_clean(s: Shape, listing: &[u32], h: Head, book: &[u32], end: usize) -> 
     let mut clean = true;
     let mut i: usize = 0;
     while i < cells {
-        clean = clean & entry_clean(h, listing::cell(listing, i), words_of(s, book, i));
+        clean = clean & entry_clean(h, listing::cell(listing, h, i), words_of(s, book, i));
         i += 1;
     }
     clean
@@ -170,7 +170,7 @@ fn cells_wrong(s: Shape, listing: &[u32], h: Head, book: &[u32], end: usize) -> 
     let cells = h.cells as usize;
     let mut i: usize = 0;
     while i < cells {
-        let j = entry_wrong(h, listing::cell(listing, i), words_of(s, book, i));
+        let j = entry_wrong(h, listing::cell(listing, h, i), words_of(s, book, i));
         if j < s.entry {
             return entry_at(s, i) + j;
         }

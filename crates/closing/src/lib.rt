@@ -34,7 +34,7 @@ fn active_loss(listing: &[u32], h: Head, c: Cell, e: Entry, before: u32, year: u
     ensures { λ s. ⌜ s ≡ yearLoss (head (now (listing .entry))) (row (now (listing .entry))) c e year ⌝ }
 {
     let age = year - e.plan + 1;
-    let r = listing::row(listing, c.stratum, age);
+    let r = listing::row(listing, h, c.stratum, age);
     year::loss_of(h, c, r, e, before)
 }
 
@@ -113,7 +113,7 @@ fn close_cell(entry: &mut [u32], listing: &[u32], h: Head, i: usize, year: u32) 
     ensures { λ _. ⌜ now (entry .exit) ≡ heldWords (length (now (entry .entry))) (grown (entryOf (now (entry .entry))) (cellLoss (now (listing .entry)) year i (entryOf (now (entry .entry))))) ⌝ }
 {
     let e = book::entry_of(&entry[..]);
-    let c = listing::cell(listing, i);
+    let c = listing::cell(listing, h, i);
     let resting = year::rests(h, c, e, year);
     if resting {
         book::put_entry(entry, e);

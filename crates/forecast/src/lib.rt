@@ -58,7 +58,7 @@ fn run_cell(listing: &[u32], h: Head, i: usize, output: &mut [u64]) -> Entry
     ensures { λ e. ⌜ e ≡ entriesAfter (now (listing .entry)) (horizon (now (listing .entry))) i ⌝ }
     ensures { λ _. ⌜ now (output .exit) ≡ addedYears (now (listing .entry)) i (now (output .entry)) ⌝ }
 {
-    let c = listing::cell(listing, i);
+    let c = listing::cell(listing, h, i);
     let mut e = year::opened(c.conversion);
     let mut kg: u32 = 0;
     let horizon = h.horizon;

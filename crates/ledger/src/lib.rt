@@ -186,7 +186,7 @@ fn account_of(listing: &[u32], book: &[u32], cell: usize) -> Account
     ensures { λ r. ⌜ r ≡ accountOf (now (listing .entry)) (now (book .entry)) cell ⌝ }
 {
     let h = listing::head(listing);
-    let c = listing::cell(listing, cell);
+    let c = listing::cell(listing, h, cell);
     let e = book::entry(BOOK, book, cell);
     Account {
         entered: c.entered,

@@ -213,39 +213,39 @@ pub fn starts_of(h: Head) -> Starts
     }
 }
 
-// Where the table of a stratum has its word for a year of age.
-fn row_place(listing: &[u32], stratum: u32, age: u32) -> usize
-    requires { ⌜ Accepted (now listing) × (stratum < strata (now listing)) × (1 ≤ age) × (age ≤ horizon (now listing)) ⌝ }
+// Where the table of a stratum has its word for a year of age. `h` is the listing's head, here and
+// below, so that it is read once where many words are.
+fn row_place(listing: &[u32], h: Head, stratum: u32, age: u32) -> usize
+    requires { ⌜ Accepted (now listing) × (h ≡ head (now listing)) × (stratum < strata (now listing)) × (1 ≤ age) × (age ≤ horizon (now listing)) ⌝ }
     ensures { λ r. ⌜ (r ≡ rowAt (now (listing .entry)) stratum age) × (r < length (now (listing .entry))) ⌝ }
 {
-    let h = head(listing);
     let s = starts_of(h);
     s.tables + (stratum * h.horizon) as usize + (age - 1) as usize
 }
 
 // Where cell `i` has its first word.
-fn cell_place(listing: &[u32], i: usize) -> usize
-    requires { ⌜ Accepted (now listing) × (i < cells (now listing)) ⌝ }
+fn cell_place(listing: &[u32], h: Head, i: usize) -> usize
+    requires { ⌜ Accepted (now listing) × (h ≡ head (now listing)) × (i < cells (now listing)) ⌝ }
     ensures { λ r. ⌜ (r ≡ cellAt (now (listing .entry)) i) × (r + 1 < length (now (listing .entry))) ⌝ }
 {
-    let s = starts_of(head(listing));
+    let s = starts_of(h);
     s.cells + CELL_WORDS * i
 }
 
 // What the table of a stratum says for a year of age.
-pub fn row(listing: &[u32], stratum: u32, age: u32) -> Row
-    requires { ⌜ Accepted (now listing) × (stratum < strata (now listing)) × (1 ≤ age) × (age ≤ horizon (now listing)) ⌝ }
+pub fn row(listing: &[u32], h: Head, stratum: u32, age: u32) -> Row
+    requires { ⌜ Accepted (now listing) × (h ≡ head (now listing)) × (stratum < strata (now listing)) × (1 ≤ age) × (age ≤ horizon (now listing)) ⌝ }
     ensures { λ r. ⌜ r ≡ row (now (listing .entry)) stratum age ⌝ }
 {
-    fields::row_of(listing[row_place(listing, stratum, age)])
+    fields::row_of(listing[row_place(listing, h, stratum, age)])
 }
 
 // What is said of cell `i`.
-pub fn cell(listing: &[u32], i: usize) -> Cell
-    requires { ⌜ Accepted (now listing) × (i < cells (now listing)) ⌝ }
+pub fn cell(listing: &[u32], h: Head, i: usize) -> Cell
+    requires { ⌜ Accepted (now listing) × (h ≡ head (now listing)) × (i < cells (now listing)) ⌝ }
     ensures { λ r. ⌜ r ≡ cell (now (listing .entry)) i ⌝ }
 {
-    let at = cell_place(listing, i);
+    let at = cell_place(listing, h, i);
     fields::cell_of(listing[at], listing[at + 1])
 }
 

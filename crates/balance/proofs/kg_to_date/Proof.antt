@@ -41,7 +41,7 @@ loop-holds : tie.Need-loop-holds Inv-loop μ-loop
 loop-holds c = (omega arith, sum-none _)
 
 cell-requires : tie.Need-cell-requires Inv-loop μ-loop
-cell-requires c κs = (start (c .before) .pre .fitted .accepted, omega (arith, below c))
+cell-requires c κs = (start (c .before) .pre .fitted .accepted, c .before .before .before .head .ensures, omega (arith, below c))
 
 words-of-requires : tie.Need-words-of-requires Inv-loop μ-loop
 words-of-requires c κs = let a = c .before .before in sound-room current (l a) (b a) (start a .pre) (a .loop .i) (below (c .before))

@@ -10,7 +10,7 @@ row-requires c κs =
     let pre = c .before .before .pre in
     let a = active-age (pre .0) (pre .1) in
     let time = pre .0 .in-time in
-    (pre .0 .accepted, a .1, omega arith, omega arith)
+    (pre .0 .accepted, pre .0 .head-is, a .1, omega arith, omega arith)
 
 loss-of-requires : tie.Need-loss-of-requires
 loss-of-requires c κs =

@@ -10,15 +10,15 @@ use Rattle.listing.proofs.cell_place.Statement.{statement}
 use Rattle.listing.proofs.cell_place.Tie as tie
 
 here : (c : tie.After-starts-of) →
-    (c .starts-of .result .cells + cellWords * c .before .before .before .args .i ≡ cellAt (now (c .before .before .before .args .listing)) (c .before .before .before .args .i))
-    × (cellAt (now (c .before .before .before .args .listing)) (c .before .before .before .args .i) + 1 < starts (now (c .before .before .before .args .listing)) .terms)
-here c = cell-by _ _ _ (c .before .head .ensures) (c .starts-of .ensures) (c .before .before .before .pre .0) _ (c .before .before .before .pre .1)
+    (c .starts-of .result .cells + cellWords * c .before .before .args .i ≡ cellAt (now (c .before .before .args .listing)) (c .before .before .args .i)) × (cellAt (now (c .before .before .args .listing)) (c .before .before .args .i) + 1 < starts (now (c .before .before .args .listing)) .terms)
+here c =
+    let pre = c .before .before .pre in
+    cell-by _ _ _ (pre .1) (c .starts-of .ensures) (pre .0) _ (pre .2)
 
 pub cell-place-spec : {M : Type 1} → statement M
 cell-place-spec =
     tie.close
     (tie.spec
-    (λ c κs. search needs)
     (λ c κs. search (needs, accepted-sizes))
     (λ c. search needs)
     (λ c. omega (arith, here (c .before)))

@@ -13,17 +13,15 @@ abbrev at : tie.Start → ℕ
 at s = rowAt (now (s .args .listing)) (s .args .stratum) (s .args .age)
 
 here : (c : tie.After-starts-of) →
-    (c .starts-of .result .tables + c .before .before .before .args .stratum * c .before .head .result .horizon + (c .before .before .before .args .age - 1) ≡ at (c .before .before .before))
-    × (at (c .before .before .before) < starts (now (c .before .before .before .args .listing)) .terms)
+    (c .starts-of .result .tables + c .before .before .args .stratum * c .before .before .args .h .horizon + (c .before .before .args .age - 1) ≡ at (c .before .before)) × (at (c .before .before) < starts (now (c .before .before .args .listing)) .terms)
 here c =
-    let pre = c .before .before .before .pre in
-    row-by _ _ _ (c .before .head .ensures) (c .starts-of .ensures) (pre .0) _ _ (pre .1) (pre .2, pre .3)
+    let pre = c .before .before .pre in
+    row-by _ _ _ (pre .1) (c .starts-of .ensures) (pre .0) _ _ (pre .2) (pre .3, pre .4)
 
 pub row-place-spec : {M : Type 1} → statement M
 row-place-spec =
     tie.close
     (tie.spec
-    (λ c κs. search needs)
     (λ c κs. search (needs, accepted-sizes))
     (λ c. omega (arith, here (c .before)))
     (λ c. omega (arith, here (c .before)))
