@@ -1,4 +1,4 @@
--- Words beyond those needed are untouched by every call. Assumes nothing.
+-- Words beyond those needed are untouched by every close, replan, withdraw and issue. Assumes nothing.
 use mathlib.Core.Path.{_≡_, refl, _∙_}
 use mathlib.Core.Bool.{Bool, true, false}
 use mathlib.Core.List.{List}

@@ -38,7 +38,7 @@ closing l b x = settleBoth (closeAnswer l b (length x)) b (bookAfter l b) x (lin
 unfoldable pub cellChecked : List ℕ → ℕ → Answer
 cellChecked l i = need (ltb i (cells l)) noSuchCell 0 (accepted 0)
 
--- after 1 to 8
+-- after 1 to 6 and 8
 unfoldable pub reached : List ℕ → List ℕ → ℕ → Answer
 reached l b i = after (admitted l b) (cellChecked l i)
 
@@ -46,7 +46,7 @@ reached l b i = after (admitted l b) (cellChecked l i)
 unfoldable pub markChecked : List ℕ → ℕ → Answer
 markChecked b i = need (not (entry b i .withdrawn)) cellWithdrawn 0 (accepted 0)
 
--- after 1 to 10
+-- after 1 to 6, 8 and 10
 unfoldable pub standing : List ℕ → List ℕ → ℕ → Answer
 standing l b i = after (reached l b i) (markChecked b i)
 
@@ -63,7 +63,7 @@ planChecked l b i y =
     (need (ahead l b y) yearNotAhead 0
     (accepted 0))
 
--- after 1 to 11
+-- after 1 to 6, 8, 10 and 11
 unfoldable pub replanAnswer : List ℕ → List ℕ → ℕ → ℕ → Answer
 replanAnswer l b i y = after (standing l b i) (planChecked l b i y)
 
@@ -79,7 +79,7 @@ withdrawing l b i = settle (standing l b i) b (withPlan b i (marked (entry b i))
 
 -- ---- issue: answers what is due, and adds it to issued
 
--- refused by 1 to 8, and otherwise balance − issued, or 0
+-- refused by 1 to 6 and 8, and otherwise balance − issued, or 0
 unfoldable pub issueAnswer : List ℕ → List ℕ → Answer
 issueAnswer l b = after (admitted l b) (accepted (tonnesDue l b))
 
@@ -116,7 +116,7 @@ accountOf l b i =
       withdrawn = entry b i .withdrawn;
     }
 
--- refused by 1 to 10
+-- refused by 1 to 6, 8 and 10
 unfoldable pub stating : List ℕ → List ℕ → ℕ → Telling
 stating l b i = record { answer = reached l b i; account = cond (reached l b i .done) (accountOf l b i) noAccount }
 
@@ -148,7 +148,7 @@ pub record Beyond (n : ℕ) (x y : List ℕ) : Type 0 where
   pub length-is : length y ≡ length x
   pub words-are : (k : ℕ) → n ≤ k → getD y k 0 ≡ getD x k 0
 
--- words beyond those needed are untouched, in the book and in the lines; proofs/Untouched.antt proves it of every call
+-- words beyond those needed are untouched, in the book and in the lines; proofs/Untouched.antt proves it of each of these calls
 pub record Untouched (l b : List ℕ) (c : Call) : Type 0 where
   pub book : Beyond (bookSize (cells l)) b (calling l b c .book)
   pub lines : Beyond (lineWords * cells l) (lent c) (calling l b c .output)

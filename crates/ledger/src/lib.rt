@@ -76,7 +76,7 @@ fn check_cell(listing: &[u32], cell: usize) -> Outcome
     Outcome::Done
 }
 
-// Numbers 1 to 10.
+// Numbers 1 to 6, 8 and 10.
 fn reach(listing: &[u32], book: &[u32], cell: usize) -> Outcome
     ensures { λ r. ⌜ outcome r ≡ reached (now (listing .entry)) (now (book .entry)) cell ⌝ }
 {
@@ -98,7 +98,7 @@ fn check_mark(book: &[u32], cell: usize) -> Outcome
     Outcome::Done
 }
 
-// Numbers 1 to 11.
+// Numbers 1 to 6, 8, 10 and 11.
 fn stand(listing: &[u32], book: &[u32], cell: usize) -> Outcome
     ensures { λ r. ⌜ outcome r ≡ standing (now (listing .entry)) (now (book .entry)) cell ⌝ }
 {
@@ -125,7 +125,7 @@ fn check_plan(listing: &[u32], book: &[u32], cell: usize, year: u32) -> Outcome
     Outcome::Done
 }
 
-// Numbers 1 to 13.
+// Numbers 1 to 6, 8 and 10 to 13.
 fn may_replan(listing: &[u32], book: &[u32], cell: usize, year: u32) -> Outcome
     ensures { λ r. ⌜ outcome r ≡ replanAnswer (now (listing .entry)) (now (book .entry)) cell year ⌝ }
 {

@@ -1,6 +1,6 @@
 -- Beyond document 01, about a fault that users met (a release took the table row of the cell before, and a site that sorted its cells
--- otherwise got another total): a cell's year goes by its own words, and so no call goes by the order of the cells. `OwnWords`, `EveryOrder`
--- and `EveryForecast` are the theorems; the file of that name in proofs/ proves each.
+-- otherwise got another total): a cell's year goes by its own words, and so no call goes by the order of the cells. `OwnWords`, `EveryOrder`,
+-- `EveryBook` and `EveryForecast` are proved in the file of that name in proofs/, `SameTotals`, `EveryListing` and `Exchanges` in Orders.antt.
 use mathlib.Core.Path.{_≡_}
 use mathlib.Core.Bool.{true, false, cond}
 use mathlib.Core.List.{List, [], _∷_}

@@ -30,7 +30,7 @@ pub record OfListing (a : Answer) : Type 0 where
   pub least : tooFewWords ≤ a .number
   pub most : a .number ≤ termNotAbove
 
--- book b of listing l passes the tests 1 to 8, and is in year t
+-- book b of listing l passes the tests 1 to 6 and 8, and is in year t
 pub record InYear (l b : List ℕ) (t : ℕ) : Type 0 where
   pub admits : admitted l b .done ≡ true
   pub year-is : year b ≡ t

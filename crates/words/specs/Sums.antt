@@ -1,4 +1,4 @@
--- Sums over cells, lines or owners.
+-- Sums over places: cells, or the lines of cells.
 use Prim.Native.Nat.{ℕ, zero, suc, _+_}
 
 -- f 0, f 1, .., f (n - 1), added up
