@@ -9,7 +9,7 @@ use Rattle.book.specs.Held as held
 use Rattle.book.specs.Sound as sound
 use Rattle.book.specs.declared.Shape.{Shape}
 
--- a head of 2 words, and 3 words for each cell
+-- a head of 2 words, and 3 words for each cell: number 6 asks for 2 + 3 × cells words
 abbrev pub current : Shape
 current = record { head = 2; entry = 3 }
 

@@ -1,11 +1,10 @@
 -- What the steps of a closing are given, from its answers. Assumes nothing.
 use mathlib.Core.Path.{_≡_, sym, ap, _∙_}
-use mathlib.Core.Bool.{Bool, true, false}
+use mathlib.Core.Bool.{true, false}
 use mathlib.Core.List.{List}
 use Prim.Native.Nat.{ℕ, zero-le, _+_, _*_, _≤_, _<_}
 use native.Mathlib.Omega.{arith}
 use lib.Dec.{leb, ltb}
-use lib.ListN.{length}
 use borrow.Author.Tests.{le-leb, lt-ltb, leb-true, ltb-true}
 use Rattle.words.specs.Answers.{Answer, accepted, outcome, need}
 use Rattle.words.specs.Refusals.{linesShort, horizonReached, lineTooLarge}
@@ -23,8 +22,8 @@ use Rattle.year.specs.declared.Entry.{Entry}
 use Rattle.year.specs.declared.Loss.{Loss}
 use Rattle.year.proofs.Laws.{active, converted, loss-active, loss-rests, grown-none, most-entered, year-most, year-kg-most}
 use Rattle.book.specs.Current.{current, entry, fitted, bookChecked, admitted, Sound}
-use Rattle.book.specs.Layout.{Sized, lineWords, year, entryOf}
-use Rattle.book.specs.Sound.{Storable, EntryRight, WordsRight}
+use Rattle.book.specs.Layout.{lineWords, year, entryOf}
+use Rattle.book.specs.Sound.{Storable, EntryRight}
 use Rattle.book.proofs.Right.{admitted-right, right-checked, checked-admits}
 use Rattle.book.proofs.Sound.{shaped, sound}
 use Rattle.book.proofs.Held.{right-storable}
@@ -77,9 +76,6 @@ module _ {l : List ℕ} {h : Head} {c : Cell} {e : Entry} {t : ℕ} (g : Losing 
 module _ {l : List ℕ} {h : Head} {t : ℕ} (i : ℕ) (w : List ℕ) (g : Losing l h (cell l i) (entryOf w) t) (c : Cell) (c-is : c ≡ cell l i) (e : Entry) (e-is : e ≡ entryOf w) where
   pub step-losing : Losing l h c e t
   step-losing = rw (c-is, e-is) g
-
-  pub step-words : Sized (length w) → WordsRight h c w
-  step-words sized = record { sized = sized; fit = rw (← e-is) (losing-fit step-losing) }
 
   -- where it rests its entry stays
   pub step-rests : rests h c e t ≡ true → (none ≡ cellLoss l t i (entryOf w)) × (e ≡ grown (entryOf w) (cellLoss l t i (entryOf w)))

@@ -12,7 +12,8 @@ use Rattle.listing.specs.Layout.{head, cells, horizon, cell}
 use Rattle.year.specs.Year.{grown}
 use Rattle.year.specs.declared.Loss.{Loss}
 use Rattle.book.specs.Current.{current, entryAt, wordsOf, Sound}
-use Rattle.book.specs.Layout.{Sized, lineWords, year, entryOf, heldWords, linesOf}
+use Rattle.book.specs.Layout.{lineWords, year, entryOf, heldWords, linesOf}
+use Rattle.book.specs.Sound.{WordsRight}
 use Rattle.book.proofs.Sound.{shaped}
 use Rattle.book.proofs.Held.{held-at-sized}
 use Rattle.closing.specs.Closing.{cellLoss, loss, closedEntry, closedWords, closedLines, linesAfter, mostNumber}
@@ -49,8 +50,8 @@ module _ {l b : List ℕ} (d : List ℕ) (k : Closable l b (length d)) where
     lent-sized : length lent ≡ current .entry
     lent-sized = filling-lent-length (r .book) lt a here
 
-    pub turn-losing : Sized (length lent) × (i < cells l) × Losing l h (cell l i) (entryOf lent) t
-    turn-losing = (rw lent-sized (shaped .entry), lt, rw lent-is (timely-losing g i lt))
+    pub turn-losing : WordsRight h (cell l i) lent × (i < cells l) × Losing l h (cell l i) (entryOf lent) t
+    turn-losing = (rw (lent-is, g .head-is) (g .sound .words-right i lt), lt, rw lent-is (timely-losing g i lt))
 
     turn-loss : cellLoss l t i (entryOf lent) ≡ loss l b i
     turn-loss = rw (lent-is, g .next)

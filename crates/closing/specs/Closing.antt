@@ -45,10 +45,6 @@ linesAfter l b x = filled lineWords x 0 (closedLines l b) (cells l)
 unfoldable pub linesChecked : List ℕ → ℕ → Answer
 linesChecked l room = need (leb (lineWords * cells l) room) linesShort room (accepted 0)
 
--- no kg line of an accepted listing and book is above 50,740,800, whatever the year; proofs/Closable.antt proves it
-abbrev pub EveryLine : Type 0
-EveryLine = (l b : List ℕ) → admitted l b .done ≡ true → (i : ℕ) → i < cells l → loss l b i .kg ≤ mostLine
-
 -- the greatest number that a word's bits 27–0 hold, 268,435,455
 abbrev pub mostNumber : ℕ
 mostNumber = 2 ^ 28 - 1
@@ -67,3 +63,7 @@ yearChecked l b =
 -- what a closing answers for a lines buffer of `room` words: 1 to 6, then 7, then 8, then 9 and 14
 unfoldable pub closeAnswer : List ℕ → List ℕ → ℕ → Answer
 closeAnswer l b room = after (fitted l b) (after (linesChecked l room) (after (bookChecked l b) (yearChecked l b)))
+
+-- no kg line of an accepted listing and book is above 50,740,800, whatever the year; proofs/Closable.antt proves it
+abbrev pub EveryLine : Type 0
+EveryLine = (l b : List ℕ) → admitted l b .done ≡ true → (i : ℕ) → i < cells l → loss l b i .kg ≤ mostLine

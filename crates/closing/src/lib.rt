@@ -9,7 +9,8 @@ ghost use Rattle.listing.specs.Layout.{head, cells, row, cell};
 ghost use Rattle.listing.specs.Accepted.{Accepted};
 ghost use Rattle.year.specs.Year.{rests, kgOf, yearLoss, grown};
 ghost use Rattle.book.specs.Current.{current, bookChecked, Fitted, Sound};
-ghost use Rattle.book.specs.Layout.{Sized, lineWords, entryOf, heldWords, linesOf};
+ghost use Rattle.book.specs.Layout.{lineWords, entryOf, heldWords, linesOf};
+ghost use Rattle.book.specs.Sound.{WordsRight};
 ghost use Rattle.closing.specs.Closing.{cellLoss, closedWords, bookAfter, linesAfter, linesChecked, mostNumber, yearChecked, closeAnswer};
 ghost use Rattle.closing.specs.Closable.{Losing, Timely, Closable};
 use book::BOOK;
@@ -108,7 +109,7 @@ pub fn may_close(listing: &[u32], book: &[u32], room: usize) -> Outcome
 // Closes cell `i`, whose own words are lent: adds the year's mm to its mm to date. The kg to date of a
 // cell that rests are not worked out.
 fn close_cell(entry: &mut [u32], listing: &[u32], h: Head, i: usize, year: u32) -> Loss
-    requires { ⌜ Sized (length (now entry)) × (i < cells (now listing)) × Losing (now listing) h (cell (now listing) i) (entryOf (now entry)) year ⌝ }
+    requires { ⌜ WordsRight h (cell (now listing) i) (now entry) × (i < cells (now listing)) × Losing (now listing) h (cell (now listing) i) (entryOf (now entry)) year ⌝ }
     ensures { λ s. ⌜ s ≡ cellLoss (now (listing .entry)) year i (entryOf (now (entry .entry))) ⌝ }
     ensures { λ _. ⌜ now (entry .exit) ≡ heldWords (length (now (entry .entry))) (grown (entryOf (now (entry .entry))) (cellLoss (now (listing .entry)) year i (entryOf (now (entry .entry))))) ⌝ }
 {

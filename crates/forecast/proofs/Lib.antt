@@ -2,3 +2,4 @@
 pub mod EveryYear
 pub mod Running
 pub mod Turn
+pub mod Untouched

@@ -7,9 +7,10 @@ use mathlib.Core.List.{List}
 use lib.ListN.{length, getD}
 use Rattle.words.specs.Sums.{sumBelow}
 use Rattle.listing.specs.Layout.{cells, horizon}
+use Rattle.book.specs.Current.{bookSize}
 use Rattle.book.specs.Layout.{lineWords, kgLine}
 use Rattle.years.specs.Years.{closedFor}
-use Rattle.ledger.specs.Calls.{opening, closing}
+use Rattle.ledger.specs.Calls.{opening, closing, Beyond}
 use Rattle.forecast.specs.Forecast.{forecasting}
 
 -- the closing of year t + 1, with a lines buffer y, of the book b that open wrote: it is accepted, leaves the book of the year after, and its
@@ -29,3 +30,11 @@ pub record ClosedYears (l b x : List ℕ) : Type 0 where
 -- for every listing, scratch book and output; proofs/EveryYear.antt proves it
 abbrev pub EveryYear : Type 0
 EveryYear = (l b x : List ℕ) → forecasting l b x .answer .done ≡ true → ClosedYears l b x
+
+-- words of the scratch book and numbers of the output beyond those needed are untouched; proofs/Untouched.antt proves it of every forecast
+pub record ForecastUntouched (l b x : List ℕ) : Type 0 where
+  pub book : Beyond (bookSize (cells l)) b (forecasting l b x .book)
+  pub output : Beyond (horizon l) x (forecasting l b x .output)
+
+abbrev pub EveryForecastUntouched : Type 0
+EveryForecastUntouched = (l b x : List ℕ) → ForecastUntouched l b x

@@ -20,7 +20,7 @@ use Rattle.balance.proofs.Bounds.{balance-same, issue-max}
 use Rattle.closing.specs.Closing.{loss}
 use Rattle.ledger.specs.Calls.{closing, replanning, withdrawing, issuing, Call, Close, Replan, Withdraw, Issue, calling}
 use Rattle.ledger.proofs.After.{closed-says, closed-line, replanned-says, withdrawn-says, issued-says, issued-value, call-refused}
-use Rattle.history.specs.History.{step, Event, Lines, Planned, Paid, Nothing, History, Start, yearIn, planIn, sumOf, oxidisedIn, burnedIn, kgIn, issuedIn, balanceAt, highest, EachClosing, dOf, StayedDry}
+use Rattle.history.specs.History.{handedOut, step, Event, Lines, Planned, Paid, Nothing, History, Start, yearIn, planIn, sumOf, oxidisedIn, burnedIn, kgIn, issuedIn, balanceAt, highest, EachClosing, dOf, StayedDry}
 
 -- the book b is admitted and says what the history h says, and the claims hold of h. A record type with no name: at an event that
 -- changes nothing it computes to itself, and the old proof is the new one
@@ -140,13 +140,13 @@ module _ (l : List ℕ) (s : Start) (b : List ℕ) (h : History) (v : Inv l s b 
         top = omega (arith, issued-value l b done, ap atLeast0 balance-is, v .top, v .issued-is, issue-max (balanceIn l b) (issued b));
       }
 
-  -- ---- every call, accepted or refused: what an accepted one hands out, e, is kept
-  either : (c : Call) (e : Event) → (calling l b c .answer .done ≡ true → Inv l s (calling l b c .book) (e ∷ h)) → Inv l s (calling l b c .book) (cond (calling l b c .answer .done) e Nothing ∷ h)
-  either c e kept =
-      by-test (λ (e : Event). Inv l s (calling l b c .book) (e ∷ h)) (calling l b c .answer .done) e Nothing kept (λ refused. kept-nothing _ (call-refused l b c refused))
-
+  -- ---- every call: what an accepted one hands out is kept, and a refused one hands out nothing
   pub kept-step : (c : Call) → Inv l s (step l b c .book) (step l b c .event ∷ h)
-  kept-step (Close x) = either (Close x) (Lines (closing l b x .output)) (kept-close x)
-  kept-step (Replan i y) = either (Replan i y) (Planned i y) (kept-replan i y)
-  kept-step (Withdraw i) = either (Withdraw i) Nothing (kept-withdraw i)
-  kept-step Issue = either Issue (Paid (issuing l b .answer .value)) kept-issue
+  kept-step c =
+      by-test (λ (e : Event). Inv l s (calling l b c .book) (e ∷ h)) (calling l b c .answer .done) (handedOut c (calling l b c)) Nothing (kept c) (λ refused. kept-nothing _ (call-refused l b c refused))
+    where
+      kept : (c : Call) → calling l b c .answer .done ≡ true → Inv l s (calling l b c .book) (handedOut c (calling l b c) ∷ h)
+      kept (Close x) = kept-close x
+      kept (Replan i y) = kept-replan i y
+      kept (Withdraw i) = kept-withdraw i
+      kept Issue = kept-issue

@@ -13,7 +13,7 @@ use Rattle.year.specs.Year.{unconverted, age, drained, emission}
 use Rattle.book.specs.Current.{issued, entry, admitted}
 use Rattle.book.specs.Layout.{year, oxidisedLine, burnedLine, kgLine}
 use Rattle.balance.specs.Balance.{balance}
-use Rattle.ledger.specs.Calls.{opening, closing, replanning, withdrawing, issuing, stating, Call, Close, Replan, Withdraw, Issue}
+use Rattle.ledger.specs.Calls.{opening, stating, Call, Close, Replan, Withdraw, Issue, calling}
 
 -- ---- a list of calls
 
@@ -30,15 +30,15 @@ pub record Step : Type 0 where
   pub book : List ℕ
   pub event : Event
 
--- a call that leaves m hands out `event` where it was accepted
-abbrev pub handing : Left → Event → Step
-handing m event = record { book = m .book; event = cond (m .answer .done) event Nothing }
+-- a call that leaves m hands out this where it was accepted
+abbrev pub handedOut : Call → Left → Event
+handedOut (Close x) m = Lines (m .output)
+handedOut (Replan i y) m = Planned i y
+handedOut (Withdraw i) m = Nothing
+handedOut Issue m = Paid (m .answer .value)
 
 abbrev pub step : List ℕ → List ℕ → Call → Step
-step l b (Close x) = let m = closing l b x in handing m (Lines (m .output))
-step l b (Replan i y) = handing (replanning l b i y) (Planned i y)
-step l b (Withdraw i) = handing (withdrawing l b i) Nothing
-step l b Issue = let m = issuing l b in handing m (Paid (m .answer .value))
+step l b c = let m = calling l b c in record { book = m .book; event = cond (m .answer .done) (handedOut c m) Nothing }
 
 -- the newest first
 abbrev pub History : Type 0
@@ -81,7 +81,7 @@ yearIn s (Planned j y ∷ h) = yearIn s h
 yearIn s (Paid t ∷ h) = yearIn s h
 yearIn s (Nothing ∷ h) = yearIn s h
 
--- cell i's plan year is that of its last accepted replan, or the listing's if there is none
+-- cell i's plan year is that of its last accepted replan, or the one counted before the list (the listing's) if there is none
 unfoldable pub planIn : Start → History → ℕ → ℕ
 planIn s [] i = s .plan i
 planIn s (Lines x ∷ h) i = planIn s h i
@@ -118,7 +118,7 @@ issuedIn s (Nothing ∷ h) = issuedIn s h
 abbrev pub balanceAt : List ℕ → Start → History → ℤ
 balanceAt l s h = balance l (yearIn s h) (kgIn s h)
 
--- the highest balance met at an accepted issue, or 0 if none was above 0
+-- the highest balance met at an accepted issue, or the tonnes counted before the list (0) if none was above them
 unfoldable pub highest : List ℕ → Start → History → ℕ
 highest l s [] = s .issued
 highest l s (Lines x ∷ h) = highest l s h

@@ -16,15 +16,19 @@ use Rattle.words.proofs.Signed.{by-test}
 use Rattle.listing.specs.Layout.{cells}
 use Rattle.year.specs.Year.{planned, marked}
 use Rattle.year.specs.declared.Entry.{Entry}
-use Rattle.book.specs.Current.{current, bookSize, entry, withPlan}
+use Rattle.book.specs.Current.{current, bookSize, entry, withPlan, heldAt, newBook, fitted, Fitted}
+use Rattle.book.specs.Held as held
 use Rattle.book.specs.Layout.{lineWords, issuedAt, issuedWords, issuedKind, yearAt, yearKind, year, stored}
 use Rattle.book.proofs.Numbers.{length-stored, stored-outside}
 use Rattle.book.proofs.Places.{entry-before}
+use Rattle.book.proofs.Sound.{shaped, fitted-says}
+use Rattle.book.proofs.Held.{held-at-sized}
+use Rattle.opening.specs.Opening.{openEntry, openBook}
 use Rattle.closing.specs.Closing.{closedWords, closedLines, bookAfter, linesAfter, closeAnswer}
 use Rattle.closing.specs.Closable.{Closable}
 use Rattle.closing.proofs.Closable.{closable}
 use Rattle.closing.proofs.Turn.{closed-sized, lines-sized}
-use Rattle.ledger.specs.Calls.{standing, replanAnswer, replanning, withdrawing, issueAnswer, issuing, closing, Close, Replan, Withdraw, Issue, Beyond, EveryUntouched}
+use Rattle.ledger.specs.Calls.{standing, replanAnswer, replanning, withdrawing, issueAnswer, issuing, opening, closing, Close, Replan, Withdraw, Issue, Beyond, EveryUntouched, Call, calling, lent}
 use Rattle.ledger.specs.Reached.{Reached}
 use Rattle.ledger.proofs.Reached.{standing-says, replan-says}
 
@@ -33,7 +37,7 @@ same : (n : ℕ) (x : List ℕ) → Beyond n x x
 same n x = record { length-is = refl; words-are = λ k le. refl }
 
 -- by the answer: what was written, or nothing
-settled : (n : ℕ) (a : Answer) (old new : List ℕ) → (a .done ≡ true → Beyond n old new) → Beyond n old (written a old new)
+pub settled : (n : ℕ) (a : Answer) (old new : List ℕ) → (a .done ≡ true → Beyond n old new) → Beyond n old (written a old new)
 settled n a old new kept =
     by-test (λ (t : Bool). Beyond n old (written a old new)) (a .done) true false (λ e. rw (written-new a old new e) (kept e)) (λ e. rw (written-old a old new e) (same n old))
 
@@ -41,7 +45,7 @@ settled n a old new kept =
 stored-beyond : (n : ℕ) (x : List ℕ) (kind from m v : ℕ) → from + m ≤ n → Beyond n x (stored kind x from m v)
 stored-beyond n x kind from m v le = record { length-is = length-stored kind from m v x; words-are = λ k far. stored-outside kind from m v k x (λ _. omega arith) }
 
-filled-beyond : (size : ℕ) (x : List ℕ) (at : ℕ) (f : ℕ → List ℕ) (count : ℕ) → ((i : ℕ) → length (f i) ≡ size) → at + size * count ≤ length x → Beyond (at + size * count) x (filled size x at f count)
+pub filled-beyond : (size : ℕ) (x : List ℕ) (at : ℕ) (f : ℕ → List ℕ) (count : ℕ) → ((i : ℕ) → length (f i) ≡ size) → at + size * count ≤ length x → Beyond (at + size * count) x (filled size x at f count)
 filled-beyond size x at f count sized room =
     record { length-is = length-filled size x at f sized (omega arith) count room; words-are = λ k far. filled-behind size x at f sized (omega arith) count k far }
 
@@ -63,14 +67,30 @@ module _ (l b : List ℕ) where
     unfolding linesAfter
     lines-beyond x e = rw zero-add at (filled-beyond lineWords x 0 (closedLines l b) (cells l) (lines-sized l b) (omega (arith, k .room)))
 
-pub every-untouched : EveryUntouched
+-- a book written anew
+pub new-beyond : (l b : List ℕ) (t n : ℕ) (e : ℕ → Entry) → Fitted l b → Beyond (bookSize (cells l)) b (newBook l b t n e)
+unfolding held.newBook
+new-beyond l b t n e fits =
+    both (both (filled-beyond (current .entry) b (current .head) (heldAt e) (cells l) (held-at-sized current shaped e) (fits .room)) (stored-beyond (bookSize (cells l)) _ yearKind yearAt 1 t (omega arith)))
+    (stored-beyond (bookSize (cells l)) _ issuedKind issuedAt (issuedWords current) n (omega arith))
+
+opened-beyond : (l b : List ℕ) → Beyond (bookSize (cells l)) b (opening l b .book)
+unfolding opening
+opened-beyond l b = settled _ (fitted l b) b (openBook l b) (λ e. new-beyond l b 0 0 (openEntry l) (fitted-says current l b shaped e))
+
+book-beyond : (l b : List ℕ) (c : Call) → Beyond (bookSize (cells l)) b (calling l b c .book)
 unfolding closing replanning withdrawing issuing
-every-untouched l b (Close x) =
-    let a = closeAnswer l b (length x) in
-    record {
-      book = settled _ a b (bookAfter l b) (λ e. closed-beyond l b (length x) (closable l b (length x) e));
-      lines = settled _ a x (linesAfter l b x) (λ e. lines-beyond l b (length x) (closable l b (length x) e) x refl);
-    }
-every-untouched l b (Replan i y) = record { book = settled _ (replanAnswer l b i y) b _ (λ e. planned-beyond l b i (planned (entry b i) y) (replan-says l b i y e .0)); lines = same _ _ }
-every-untouched l b (Withdraw i) = record { book = settled _ (standing l b i) b _ (λ e. planned-beyond l b i (marked (entry b i)) (standing-says l b i e)); lines = same _ _ }
-every-untouched l b Issue = record { book = settled _ (issueAnswer l b) b _ (λ e. stored-beyond (bookSize (cells l)) b issuedKind issuedAt (issuedWords current) _ (omega arith)); lines = same _ _ }
+book-beyond l b (Close x) = settled _ (closeAnswer l b (length x)) b (bookAfter l b) (λ e. closed-beyond l b (length x) (closable l b (length x) e))
+book-beyond l b (Replan i y) = settled _ (replanAnswer l b i y) b _ (λ e. planned-beyond l b i (planned (entry b i) y) (replan-says l b i y e .0))
+book-beyond l b (Withdraw i) = settled _ (standing l b i) b _ (λ e. planned-beyond l b i (marked (entry b i)) (standing-says l b i e))
+book-beyond l b Issue = settled _ (issueAnswer l b) b _ (λ e. stored-beyond (bookSize (cells l)) b issuedKind issuedAt (issuedWords current) _ (omega arith))
+
+output-beyond : (l b : List ℕ) (c : Call) → Beyond (lineWords * cells l) (lent c) (calling l b c .output)
+unfolding closing replanning withdrawing issuing
+output-beyond l b (Close x) = settled _ (closeAnswer l b (length x)) x (linesAfter l b x) (λ e. lines-beyond l b (length x) (closable l b (length x) e) x refl)
+output-beyond l b (Replan i y) = same _ _
+output-beyond l b (Withdraw i) = same _ _
+output-beyond l b Issue = same _ _
+
+pub every-untouched : EveryUntouched
+every-untouched = record { opened = opened-beyond; book = book-beyond; lines = output-beyond }

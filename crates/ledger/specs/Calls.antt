@@ -148,10 +148,8 @@ pub record Beyond (n : ℕ) (x y : List ℕ) : Type 0 where
   pub length-is : length y ≡ length x
   pub words-are : (k : ℕ) → n ≤ k → getD y k 0 ≡ getD x k 0
 
--- words beyond those needed are untouched, in the book and in the lines; proofs/Untouched.antt proves it of each of these calls
-pub record Untouched (l b : List ℕ) (c : Call) : Type 0 where
-  pub book : Beyond (bookSize (cells l)) b (calling l b c .book)
-  pub lines : Beyond (lineWords * cells l) (lent c) (calling l b c .output)
-
-abbrev pub EveryUntouched : Type 0
-EveryUntouched = (l b : List ℕ) (c : Call) → Untouched l b c
+-- words beyond those needed are untouched everywhere; proofs/Untouched.antt proves it, and the forecast has a statement of its own
+pub record EveryUntouched : Type 0 where
+  pub opened : (l b : List ℕ) → Beyond (bookSize (cells l)) b (opening l b .book)
+  pub book : (l b : List ℕ) (c : Call) → Beyond (bookSize (cells l)) b (calling l b c .book)
+  pub lines : (l b : List ℕ) (c : Call) → Beyond (lineWords * cells l) (lent c) (calling l b c .output)

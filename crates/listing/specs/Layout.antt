@@ -25,9 +25,6 @@ horizon l = head l .horizon
 abbrev pub guard : List ℕ → ℕ
 guard l = head l .guard
 
-abbrev pub leastThickness : List ℕ → ℕ
-leastThickness l = head l .thickness
-
 -- the words that every listing has: 0 and 1
 abbrev pub leastWords : ℕ
 leastWords = 2

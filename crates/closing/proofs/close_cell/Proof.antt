@@ -5,7 +5,7 @@ use borrow.Author.Needs.{needs}
 use Rattle.year.specs.Year.{grown}
 use Rattle.book.specs.Layout.{heldWords}
 use Rattle.book.specs.Sound.{Storable}
-use Rattle.closing.proofs.Closable.{step-losing, step-words, step-rests, step-kept, step-loss, step-storable}
+use Rattle.closing.proofs.Closable.{step-losing, step-rests, step-kept, step-loss, step-storable}
 use Rattle.closing.proofs.close_cell.Statement.{statement}
 use Rattle.closing.proofs.close_cell.Tie as tie
 
@@ -18,7 +18,7 @@ kept : tie.Need-put-entry-requires
 kept c κs =
     let cell = c .before .before .before in
     let s = start cell in
-    (s .pre .0, step-kept _ (s .args .entry .now) (s .pre .2) _ (cell .cell .ensures) _ (cell .before .entry-of .ensures))
+    (s .pre .0 .sized, step-kept _ (s .args .entry .now) (s .pre .2) _ (cell .cell .ensures) _ (cell .before .entry-of .ensures))
 
 rested : tie.Need-returns
 rested c =
@@ -32,10 +32,7 @@ rested c =
 -- ---- one that does not
 
 kg-of-requires : tie.Need-kg-of-requires
-kg-of-requires c κs =
-    let cell = c .before .before .before in
-    let s = start cell in
-    step-words _ (s .args .entry .now) (s .pre .2) _ (cell .cell .ensures) _ (cell .before .entry-of .ensures) (s .pre .0)
+kg-of-requires c κs = let cell = c .before .before .before in rw (cell .cell .ensures) (start cell .pre .0)
 
 active-loss-requires : tie.Need-active-loss-requires
 active-loss-requires c κs =
@@ -57,7 +54,7 @@ grown-requires : tie.Need-grown-requires
 grown-requires c κs = let fits = storable (c .before) in (omega (arith, fits .oxidised), omega (arith, fits .burned))
 
 put-entry-requires : tie.Need-put-entry-requires-2
-put-entry-requires c κs = let x = c .before .before in (start (cell x) .pre .0, rw (c .grown .ensures) (storable x))
+put-entry-requires c κs = let x = c .before .before in (start (cell x) .pre .0 .sized, rw (c .grown .ensures) (storable x))
 
 returns : tie.Need-returns-2
 returns c =
