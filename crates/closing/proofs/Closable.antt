@@ -77,6 +77,14 @@ module _ {l : List ℕ} {h : Head} {t : ℕ} (i : ℕ) (w : List ℕ) (g : Losin
   pub step-losing : Losing l h c e t
   step-losing = rw (c-is, e-is) g
 
+  -- s is the loss that it was told
+  module _ (s : Loss) (s-is : s ≡ yearLoss (head l) (row l) c e t) where
+    pub step-loss : s ≡ cellLoss l t i (entryOf w)
+    step-loss = rw (c-is, e-is) at s-is
+
+    pub step-storable : Storable (grown e s)
+    step-storable = rw s-is (losing-storable step-losing)
+
   -- where it rests its entry stays
   pub step-rests : rests h c e t ≡ true → (none ≡ cellLoss l t i (entryOf w)) × (e ≡ grown (entryOf w) (cellLoss l t i (entryOf w)))
   step-rests q =
@@ -85,14 +93,6 @@ module _ {l : List ℕ} {h : Head} {t : ℕ} (i : ℕ) (w : List ℕ) (g : Losin
 
   pub step-kept : Storable e
   step-kept = let g′ = step-losing in right-storable (g′ .accepted .head-right) (g′ .cell-right) e (g′ .entry-right)
-
-  -- s is the loss that it was told
-  module _ (s : Loss) (s-is : s ≡ yearLoss (head l) (row l) c e t) where
-    pub step-loss : s ≡ cellLoss l t i (entryOf w)
-    step-loss = rw (c-is, e-is) at s-is
-
-    pub step-storable : Storable (grown e s)
-    step-storable = rw s-is (losing-storable step-losing)
 
 -- every cell of a right book can be
 pub timely-losing : {l : List ℕ} {h : Head} {b : List ℕ} {t : ℕ} → Timely l h b t → (i : ℕ) → i < cells l → Losing l h (cell l i) (entry b i) t

@@ -31,7 +31,7 @@ line-word l b x i lt j h = rw zero-add at (filled-word lineWords x 0 (closedLine
 module _ (l b : List ℕ) (room : bookSize (cells l) ≤ length b) where
   pub after-words : (i : ℕ) → i < cells l → wordsOf (bookAfter l b) i ≡ closedWords l b i
   unfolding bookAfter
-  after-words i lt = words-stored current _ yearKind yearAt 1 (year b + 1) i (omega arith) ∙ words-filled current b (closedWords l b) (closed-sized l b) (omega arith) (cells l) i lt
+  after-words i lt = words-stored current _ yearKind yearAt 1 _ i (omega arith) ∙ words-filled current b (closedWords l b) (closed-sized l b) (omega arith) (cells l) i lt
 
   pub after-head : (l′ b′ : List ℕ) → bookSize (cells l′) ≤ length b′ → ((k : ℕ) → k < current .head → getD b k 0 ≡ getD b′ k 0) → (k : ℕ) → k < current .head → getD (bookAfter l b) k 0 ≡ getD (bookAfter l′ b′) k 0
   unfolding bookAfter
@@ -39,7 +39,7 @@ module _ (l b : List ℕ) (room : bookSize (cells l) ≤ length b) where
       let filled-length = length-filled (current .entry) b (current .head) (closedWords l b) (closed-sized l b) (omega arith) (cells l) room in
       let filled-length′ = length-filled (current .entry) b′ (current .head) (closedWords l′ b′) (closed-sized l′ b′) (omega arith) (cells l′) room′ in
       rw (year-by current b b′ (omega arith) same)
-      (stored-same yearKind yearAt 1 (year b′ + 1) k _ _ (omega arith) (omega arith)
+      (stored-same yearKind yearAt 1 _ k _ _ (omega arith) (omega arith)
       (λ beside.
       head-filled current b (closedWords l b) (closed-sized l b) (omega arith) (cells l) k lt
       ∙ same k lt

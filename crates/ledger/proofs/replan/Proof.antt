@@ -21,11 +21,7 @@ module _ (c : tie.After-enum-told) where
   stands : Reached (now (start .args .listing)) (now (start .args .book)) (start .args .cell) × (start .args .year < 2 ^ 8)
   stands = replan-done _ _ _ _ _ (c .before .before .may-replan .ensures) (c .enum-told .given .1)
 
-asked : tie.Need-put-plan-requires
-asked c κs =
-    let r = stands (c .before .before .before .before) in
-    (r .0 .room, rw (c .planned .ensures) (r .1))
-
+-- first, so that another entry is refused here
 done : tie.Need-returns
 unfolding replanning
 done c =
@@ -35,6 +31,11 @@ done c =
     let s = start told in
     settle-done _ _ (told .before .before .may-replan .ensures) (told .enum-told .given .1) _ _ _
     (put .put-plan .ensures ∙ ap (withPlan (now (s .args .book)) (s .args .cell)) (put .before .planned .ensures ∙ ap (λ (e : Entry). planned e (s .args .year)) (entry .entry .ensures)))
+
+asked : tie.Need-put-plan-requires
+asked c κs =
+    let r = stands (c .before .before .before .before) in
+    (r .0 .room, rw (c .planned .ensures) (r .1))
 
 pub replan-spec : {M : Type 1} → statement M
 unfolding replanning

@@ -21,12 +21,7 @@ module _ (c : tie.After-enum-told) where
   stands : Reached (now (start .args .listing)) (now (start .args .book)) (start .args .cell)
   stands = standing-done _ _ _ _ (c .before .before .stand .ensures) (c .enum-told .given .1)
 
-asked : tie.Need-put-plan-requires
-asked c κs =
-    let entry = c .before .before in
-    let r = stands (entry .before .before) in
-    (r .room, rw (c .marked .ensures) (omega (arith, ap (λ (e : Entry). e .plan) (entry .entry .ensures), r .entry-right .plan, r .sound .fitted .accepted .head-right .horizon .1)))
-
+-- first, so that another entry is refused here
 done : tie.Need-returns
 unfolding withdrawing
 done c =
@@ -36,6 +31,12 @@ done c =
     let s = start told in
     settle-done _ _ (told .before .before .stand .ensures) (told .enum-told .given .1) _ _ _
     (put .put-plan .ensures ∙ ap (withPlan (now (s .args .book)) (s .args .cell)) (put .before .marked .ensures ∙ ap marked (entry .entry .ensures)))
+
+asked : tie.Need-put-plan-requires
+asked c κs =
+    let entry = c .before .before in
+    let r = stands (entry .before .before) in
+    (r .room, rw (c .marked .ensures) (omega (arith, ap (λ (e : Entry). e .plan) (entry .entry .ensures), r .entry-right .plan, r .sound .fitted .accepted .head-right .horizon .1)))
 
 pub withdraw-spec : {M : Type 1} → statement M
 unfolding withdrawing
