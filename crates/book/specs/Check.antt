@@ -67,6 +67,6 @@ fitted s l b = after (checked l) (roomChecked s l b)
 unfoldable pub bookChecked : Shape → List ℕ → List ℕ → Answer
 bookChecked s l b = every bookWord (bookRight s l b) 0 (bookSize s (cells l)) (accepted 0)
 
--- numbers 1 to 6 and 8, with which every call on an open book begins; a closing tests its lines before 8
+-- numbers 1 to 6 and 8, with which every call on an open book but a closing begins: that one tests its lines before 8
 unfoldable pub admitted : Shape → List ℕ → List ℕ → Answer
 admitted s l b = after (fitted s l b) (bookChecked s l b)

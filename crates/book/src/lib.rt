@@ -231,7 +231,7 @@ pub fn check_book(s: Shape, listing: &[u32], book: &[u32]) -> Outcome
     Outcome::Done
 }
 
-// Numbers 1 to 6 and 8, with which every call on an open book begins.
+// Numbers 1 to 6 and 8, with which every call on an open book but a closing begins.
 pub fn admit(s: Shape, listing: &[u32], book: &[u32]) -> Outcome
     requires { ⌜ Shaped s ⌝ }
     ensures { λ r. ⌜ outcome r ≡ admitted s (now (listing .entry)) (now (book .entry)) ⌝ }
