@@ -9,6 +9,7 @@ use Rattle.words.specs.Bits.{atLeast0}
 use Rattle.words.specs.Sums.{sumBelow}
 use Rattle.words.proofs.Sums.{sum-next, sum-same, sum-most}
 use Rattle.words.proofs.Signed.{size-add, size-minus, atLeast0-size, atLeast0-add, atLeast0-less}
+use Rattle.fields.specs.Words.{mostBuffer}
 use Rattle.fields.specs.declared.Head.{Head}
 use Rattle.fields.specs.declared.Cell.{Cell}
 use Rattle.listing.specs.Layout.{head, cells, cell}
@@ -45,7 +46,7 @@ module _ (l b : List ℕ) (sound : Sound l b) {h : Head} {i : ℕ} {c : Cell} {w
       (adds, omega (arith, kg-most l b sound (i + 1) (omega arith)))
 
 -- ---- the balance
-pub held-size : (p : ℕ) (s : ℤ) → p ≤ 100 → withheld p s ≤ natAbs s
+pub held-size : (p : ℕ) (s : ℤ) → p ≤ mostBuffer → withheld p s ≤ natAbs s
 unfolding withheld
 held-size p s h = omega (arith, mul-le-mul-right (atLeast0 s) h, atLeast0-size s)
 

@@ -5,6 +5,7 @@ ghost use Prim.Native.Nat.{_≤_, _<_, _^_};
 ghost use lib.IntN.{natAbs};
 ghost use Rattle.words.specs.Bits.{atLeast0};
 ghost use Rattle.words.specs.Sums.{sumBelow};
+ghost use Rattle.fields.specs.Words.{mostBuffer};
 ghost use Rattle.listing.specs.Layout.{cells};
 ghost use Rattle.listing.specs.Accepted.{Accepted};
 ghost use Rattle.book.specs.Current.{kgTo, Sound};
@@ -53,7 +54,7 @@ fn to_date(listing: &[u32], year: u32, peat: u64, last: u32) -> i64
 
 // What is withheld of `s` tonnes: `p` percent, rounded up.
 fn withheld(p: u32, s: i64) -> u64
-    requires { ⌜ (p ≤ 100) × (natAbs s ≤ mostTonnes) ⌝ }
+    requires { ⌜ (p ≤ mostBuffer) × (natAbs s ≤ mostTonnes) ⌝ }
     ensures { λ r. ⌜ r ≡ withheld p s ⌝ }
 {
     (p as u64 * at_least_0(s) + 99) / 100

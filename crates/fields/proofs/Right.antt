@@ -10,7 +10,7 @@ use Rattle.words.specs.Bits.{within}
 use Rattle.words.proofs.Fields.{field-most}
 use Rattle.words.proofs.Answers.{and-left, and-right, within-least, within-most}
 use Rattle.fields.specs.Fields.{cellsOf, strataOf, horizonOf, bufferOf, warmingOf, methaneOf, stratumOf, conversionOf, enteredOf, areaOf, densityOf, termOf, yearOf, headOf, rowOf, cellOf}
-use Rattle.fields.specs.Words.{mostCells, mostStrata, mostHorizon, isSizeWord, isFigureWord, isDepthWord, isAreaWord, isTermWord, isAbove}
+use Rattle.fields.specs.Words.{mostCells, mostStrata, mostHorizon, mostBuffer, mostWarming, mostMethane, mostDepth, mostArea, mostDensity, mostTerm, yearTerms, isSizeWord, isFigureWord, isDepthWord, isAreaWord, isTermWord, isAbove}
 use Rattle.fields.specs.Right.{SizesWithin, HeadRight, RowRight, CellRight, Listed, TermRight}
 
 pub sizes-within : (w v : ℕ) → isSizeWord w ≡ true → SizesWithin (headOf w v)
@@ -27,9 +27,9 @@ head-right w v p q =
     let cells : within 1 mostCells (cellsOf w) ≡ true = search (and-left, and-right) in
     let strata : within 1 mostStrata (strataOf w) ≡ true = search (and-left, and-right) in
     let horizon : within 1 mostHorizon (horizonOf w) ≡ true = search (and-left, and-right) in
-    let buffer : within 0 100 (bufferOf v) ≡ true = search (and-left, and-right) in
-    let warming : within 1 100 (warmingOf v) ≡ true = search (and-left, and-right) in
-    let methane : within 0 100 (methaneOf v) ≡ true = search (and-left, and-right) in
+    let buffer : within 0 mostBuffer (bufferOf v) ≡ true = search (and-left, and-right) in
+    let warming : within 1 mostWarming (warmingOf v) ≡ true = search (and-left, and-right) in
+    let methane : within 0 mostMethane (methaneOf v) ≡ true = search (and-left, and-right) in
     record {
       cells = (within-least _ _ _ cells, within-most _ _ _ cells);
       strata = (within-least _ _ _ strata, within-most _ _ _ strata);
@@ -49,9 +49,9 @@ unfolding isDepthWord isAreaWord cellOf
 cell-right strata horizon w v p q =
     let stratum : ltb (stratumOf w) strata ≡ true = search (and-left, and-right) in
     let conversion : within 0 horizon (conversionOf w) ≡ true = search (and-left, and-right) in
-    let entered : within 0 20000 (enteredOf w) ≡ true = search (and-left, and-right) in
-    let area : within 1 10000 (areaOf v) ≡ true = search (and-left, and-right) in
-    let density : within 1 2400 (densityOf v) ≡ true = search (and-left, and-right) in
+    let entered : within 0 mostDepth (enteredOf w) ≡ true = search (and-left, and-right) in
+    let area : within 1 mostArea (areaOf v) ≡ true = search (and-left, and-right) in
+    let density : within 1 mostDensity (densityOf v) ≡ true = search (and-left, and-right) in
     record {
       stratum = ltb-true _ _ stratum;
       conversion = within-most _ _ _ conversion;
@@ -67,31 +67,31 @@ either false b h = inr h
 pub term-right : (horizon w : ℕ) → isTermWord horizon w ≡ true → TermRight horizon w
 unfolding isTermWord
 term-right horizon w h =
-    let term : (eqb (termOf w) 1 || within 3 8 (termOf w)) ≡ true = search (and-left, and-right) in
+    let term : (eqb (termOf w) 1 || within 3 mostTerm (termOf w)) ≡ true = search (and-left, and-right) in
     let year : within 1 horizon (yearOf w) ≡ true = search (and-left, and-right) in
     record {
       term = ⊎-elim (λ e. inl (eqb-true _ _ e)) (λ e. inr (within-least _ _ _ e, within-most _ _ _ e)) (either _ _ term);
       year = (within-least _ _ _ year, within-most _ _ _ year);
     }
 
--- a term's number, counted through: 7 a year, of which term 1 is the first and term 8 the last
+-- a term's number, counted through: of a year's, term 1 is the first and term 8 the last
 abbrev numbered : ℕ → ℕ → ℕ
-numbered year term = 7 * (year - 1) + (term - 2)
+numbered year term = yearTerms * (year - 1) + (term - 2)
 
-one-of-seven : (term : ℕ) → Listed term → term - 2 < 7
-one-of-seven term l = ⊎-elim (λ (e : term ≡ 1). omega arith) (λ (e : (3 ≤ term) × (term ≤ 8)). omega arith) l
+one-of-seven : (term : ℕ) → Listed term → term - 2 < yearTerms
+one-of-seven term l = ⊎-elim (λ (e : term ≡ 1). omega arith) (λ (e : (3 ≤ term) × (term ≤ mostTerm)). omega arith) l
 
 higher-term : (year s t : ℕ) → Listed s → Listed t → s < t → numbered year s < numbered year t
 higher-term year s t p q h =
     ⊎-elim
-    (λ (f : t ≡ 1). ⊎-elim (λ (e : s ≡ 1). absurd (omega arith)) (λ (e : (3 ≤ s) × (s ≤ 8)). absurd (omega arith)) p)
-    (λ (f : (3 ≤ t) × (t ≤ 8)). ⊎-elim (λ (e : s ≡ 1). omega arith) (λ (e : (3 ≤ s) × (s ≤ 8)). omega arith) p)
+    (λ (f : t ≡ 1). ⊎-elim (λ (e : s ≡ 1). absurd (omega arith)) (λ (e : (3 ≤ s) × (s ≤ mostTerm)). absurd (omega arith)) p)
+    (λ (f : (3 ≤ t) × (t ≤ mostTerm)). ⊎-elim (λ (e : s ≡ 1). omega arith) (λ (e : (3 ≤ s) × (s ≤ mostTerm)). omega arith) p)
     q
 
 unfoldable pub number : ℕ → ℕ
 number w = numbered (yearOf w) (termOf w)
 
-pub number-below : (horizon w : ℕ) → TermRight horizon w → number w < 7 * horizon
+pub number-below : (horizon w : ℕ) → TermRight horizon w → number w < yearTerms * horizon
 unfolding number
 number-below horizon w r =
     let year = r .year in

@@ -3,7 +3,7 @@ use mathlib.Core.Path.{_≡_}
 use mathlib.Core.Logic.{_⊎_}
 use Prim.Native.Nat.{ℕ, _≤_, _<_}
 use Rattle.fields.specs.Fields.{termOf, yearOf}
-use Rattle.fields.specs.Words.{mostCells, mostStrata, mostHorizon}
+use Rattle.fields.specs.Words.{mostCells, mostStrata, mostHorizon, mostBuffer, mostWarming, mostMethane, mostDepth, mostArea, mostDensity, mostTerm}
 use Rattle.fields.specs.declared.Head.{Head}
 use Rattle.fields.specs.declared.Row.{Row}
 use Rattle.fields.specs.declared.Cell.{Cell}
@@ -19,9 +19,9 @@ pub record HeadRight (h : Head) : Type 0 where
   pub cells : (1 ≤ h .cells) × (h .cells ≤ mostCells)
   pub strata : (1 ≤ h .strata) × (h .strata ≤ mostStrata)
   pub horizon : (1 ≤ h .horizon) × (h .horizon ≤ mostHorizon)
-  pub buffer : h .buffer ≤ 100
-  pub warming : (1 ≤ h .warming) × (h .warming ≤ 100)
-  pub methane : h .methane ≤ 100
+  pub buffer : h .buffer ≤ mostBuffer
+  pub warming : (1 ≤ h .warming) × (h .warming ≤ mostWarming)
+  pub methane : h .methane ≤ mostMethane
 
 -- a row's figures
 pub record RowRight (r : Row) : Type 0 where
@@ -33,13 +33,13 @@ pub record RowRight (r : Row) : Type 0 where
 pub record CellRight (strata horizon : ℕ) (c : Cell) : Type 0 where
   pub stratum : c .stratum < strata
   pub conversion : c .conversion ≤ horizon
-  pub entered : c .entered ≤ 20000
-  pub area : (1 ≤ c .area) × (c .area ≤ 10000)
-  pub density : (1 ≤ c .density) × (c .density ≤ 2400)
+  pub entered : c .entered ≤ mostDepth
+  pub area : (1 ≤ c .area) × (c .area ≤ mostArea)
+  pub density : (1 ≤ c .density) × (c .density ≤ mostDensity)
 
 -- a term that a listing may have
 abbrev pub Listed : ℕ → Type 0
-Listed term = (term ≡ 1) ⊎ ((3 ≤ term) × (term ≤ 8))
+Listed term = (term ≡ 1) ⊎ ((3 ≤ term) × (term ≤ mostTerm))
 
 -- a term's word
 pub record TermRight (horizon w : ℕ) : Type 0 where

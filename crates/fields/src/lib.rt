@@ -14,6 +14,23 @@ pub const MOST_STRATA: u32 = 16;
 
 pub const MOST_HORIZON: u32 = 100;
 
+// Of word 1: the buffer percentage, the warming potential and the emission ratio of methane.
+const MOST_BUFFER: u32 = 100;
+
+const MOST_WARMING: u32 = 100;
+
+const MOST_METHANE: u32 = 100;
+
+// Of a cell's words.
+const MOST_DEPTH: u32 = 20_000;
+
+const MOST_AREA: u32 = 10_000;
+
+const MOST_DENSITY: u32 = 2_400;
+
+// The highest term.
+const MOST_TERM: u32 = 8;
+
 // What is said of the project as a whole. The guard and the thickness, the least of peat, are in mm.
 pub struct Head {
     pub cells: u32,
@@ -65,9 +82,9 @@ pub fn is_figure_word(w: u32) -> bool
 {
     is_kind(w, 2)
         & (bits(w, 27, 23) == 0)
-        & between(w, 22, 16, 0, 100)
-        & between(w, 15, 8, 1, 100)
-        & between(w, 7, 0, 0, 100)
+        & between(w, 22, 16, 0, MOST_BUFFER)
+        & between(w, 15, 8, 1, MOST_WARMING)
+        & between(w, 7, 0, 0, MOST_METHANE)
 }
 
 // Whether w is right as a word of a table.
@@ -84,7 +101,7 @@ pub fn is_depth_word(w: u32, strata: u32, horizon: u32) -> bool
     is_kind(w, 4)
         & (bits(w, 27, 24) < strata)
         & between(w, 23, 16, 0, horizon)
-        & between(w, 15, 0, 0, 20_000)
+        & between(w, 15, 0, 0, MOST_DEPTH)
 }
 
 // Whether w is right as a cell's second word.
@@ -93,8 +110,8 @@ pub fn is_area_word(w: u32) -> bool
 {
     is_kind(w, 5)
         & (bits(w, 27, 26) == 0)
-        & between(w, 25, 12, 1, 10_000)
-        & between(w, 11, 0, 1, 2_400)
+        & between(w, 25, 12, 1, MOST_AREA)
+        & between(w, 11, 0, 1, MOST_DENSITY)
 }
 
 // Whether w is right as a term.
@@ -102,7 +119,7 @@ pub fn is_term_word(w: u32, horizon: u32) -> bool
     ensures { λ r. ⌜ r ≡ isTermWord horizon w ⌝ }
 {
     is_kind(w, 6)
-        & ((bits(w, 27, 24) == 1) | between(w, 27, 24, 3, 8))
+        & ((bits(w, 27, 24) == 1) | between(w, 27, 24, 3, MOST_TERM))
         & between(w, 23, 17, 1, horizon)
 }
 

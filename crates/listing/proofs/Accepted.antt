@@ -12,11 +12,11 @@ use Rattle.words.specs.declared.Outcome.the-variants.{Done}
 use Rattle.words.specs.Answers.{Answer, outcome}
 use Rattle.words.proofs.Steps.{row-within}
 use Rattle.words.proofs.Answers.{need-says, every-says}
-use Rattle.fields.specs.Words.{mostStrata, mostHorizon, isSizeWord, isDepthWord, isAreaWord, isAbove}
+use Rattle.fields.specs.Words.{mostStrata, mostHorizon, yearTerms, isSizeWord, isDepthWord, isAreaWord, isAbove}
 use Rattle.fields.specs.Right.{SizesWithin, TermRight}
 use Rattle.fields.specs.declared.Head.{Head}
 use Rattle.fields.proofs.Right.{sizes-within, head-right, row-right, cell-right, term-right, number, number-below, number-above}
-use Rattle.listing.specs.Layout.{leastWords, cellWords, head, cells, strata, horizon, startsOf, starts, rowAt, cellAt}
+use Rattle.listing.specs.Layout.{leastWords, cellWords, mostTermWords, head, cells, strata, horizon, startsOf, starts, rowAt, cellAt}
 use Rattle.listing.specs.Check.{isCellWord, wordsChecked, laterChecked, checked}
 use Rattle.listing.specs.Accepted.{InTurn, Accepted}
 use Rattle.listing.specs.declared.Starts.{Starts}
@@ -73,14 +73,14 @@ module _ (l : List ℕ) (horizon start : ℕ)
       let more = number-above horizon (getD l (start + j) 0) (getD l (start + suc j) 0) before here up in
       omega arith
 
-  -- and a number is below 7 for each year
-  few-terms : length l ≤ start + 7 * horizon
+  -- and a number is below the terms of all years
+  few-terms : length l ≤ start + yearTerms * horizon
   few-terms =
-      let most : length l < suc (start + 7 * horizon) =
+      let most : length l < suc (start + yearTerms * horizon) =
       lt-of-not-le
-      (λ (h : suc (start + 7 * horizon) ≤ length l).
-      let least = number-least (7 * horizon) h in
-      let below = number-below horizon (getD l (start + 7 * horizon) 0) (right (start + 7 * horizon) (omega arith) h) in
+      (λ (h : suc (start + yearTerms * horizon) ≤ length l).
+      let least = number-least (yearTerms * horizon) h in
+      let below = number-below horizon (getD l (start + yearTerms * horizon) 0) (right (start + yearTerms * horizon) (omega arith) h) in
       omega arith) in
       omega arith
 
@@ -116,8 +116,8 @@ accepted l h =
 pub accepted-done : (l : List ℕ) (v : Outcome) → outcome v ≡ checked l → v ≡ Done → Accepted l
 accepted-done l v e d = accepted l (ap (λ (a : Answer). a .done) (sym e ∙ ap outcome d))
 
--- at most 700 terms
-pub terms-few : (l : List ℕ) → Accepted l → length l ≤ starts l .terms + 700
+-- of all years
+pub terms-few : (l : List ℕ) → Accepted l → length l ≤ starts l .terms + mostTermWords
 terms-few l a =
     let few = a .few in
     let horizon = a .head-right .horizon in
@@ -147,6 +147,6 @@ module _ (l : List ℕ) (h : Head) (s : Starts) (e : h ≡ head l) (f : s ≡ st
       let parts = a .parts in
       (rw starts-by, omega arith)
 
-  -- the terms end at most 700 words on
-  pub terms-by : (s .terms ≡ starts l .terms) × (s .terms ≤ length l) × (length l ≤ s .terms + 700)
+  -- the terms end with the listing
+  pub terms-by : (s .terms ≡ starts l .terms) × (s .terms ≤ length l) × (length l ≤ s .terms + mostTermWords)
   terms-by = rw starts-by (refl, a .long, terms-few l a)

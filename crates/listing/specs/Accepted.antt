@@ -4,7 +4,7 @@ use mathlib.Core.Bool.{true}
 use Prim.Native.Nat.{ℕ, _+_, _-_, _*_, _≤_, _<_}
 use mathlib.Core.List.{List}
 use lib.ListN.{length, getD}
-use Rattle.fields.specs.Words.{isAbove}
+use Rattle.fields.specs.Words.{yearTerms, isAbove}
 use Rattle.fields.specs.Right.{HeadRight, RowRight, CellRight, TermRight}
 use Rattle.fields.specs.declared.Head.{Head}
 use Rattle.listing.specs.Layout.{cellWords, tablesAt, mostTermsAt, head, cells, strata, horizon, starts, row, cell}
@@ -26,5 +26,5 @@ pub record Accepted (l : List ℕ) : Type 0 where
   pub cell-right : (i : ℕ) → i < cells l → CellRight (strata l) (horizon l) (cell l i)
   pub term-right : (k : ℕ) → starts l .terms ≤ k → k < length l → TermRight (horizon l) (getD l k 0)
   pub rising : (k : ℕ) → starts l .terms + 1 ≤ k → k < length l → isAbove (getD l (k - 1) 0) (getD l k 0) ≡ true
-  -- so a year has at most one word for each of 7 terms
-  pub few : length l ≤ starts l .terms + 7 * horizon l
+  -- so a year has at most one word for each term that it may have
+  pub few : length l ≤ starts l .terms + yearTerms * horizon l

@@ -3,7 +3,7 @@ use Prim.Native.Nat.{ℕ, _+_, _-_, _*_}
 use mathlib.Core.List.{List}
 use lib.ListN.{getD}
 use Rattle.fields.specs.Fields.{headOf, rowOf, cellOf}
-use Rattle.fields.specs.Words.{mostCells, mostStrata, mostHorizon}
+use Rattle.fields.specs.Words.{mostCells, mostStrata, mostHorizon, yearTerms}
 use Rattle.fields.specs.declared.Head.{Head}
 use Rattle.fields.specs.declared.Row.{Row}
 use Rattle.fields.specs.declared.Cell.{Cell}
@@ -52,12 +52,15 @@ startsOf h =
 abbrev pub starts : List ℕ → Starts
 starts l = startsOf (head l)
 
--- the latest place where the terms begin, and the words of the longest listing: each year has at most 7 terms
+-- the latest place where the terms begin, the most terms, 700, and the words of the longest listing
 abbrev pub mostTermsAt : ℕ
 mostTermsAt = mostTablesAt + mostStrata * mostHorizon + cellWords * mostCells
 
+abbrev pub mostTermWords : ℕ
+mostTermWords = yearTerms * mostHorizon
+
 abbrev pub mostWords : ℕ
-mostWords = mostTermsAt + 7 * mostHorizon
+mostWords = mostTermsAt + mostTermWords
 
 -- the row of a stratum's table for a year of age, 1 to the horizon
 abbrev pub rowAt : List ℕ → ℕ → ℕ → ℕ

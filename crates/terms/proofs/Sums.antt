@@ -15,18 +15,19 @@ use Rattle.words.specs.Bits.{bits, atLeast0}
 use Rattle.words.proofs.Fields.{field-below}
 use Rattle.words.proofs.Signed.{by-test, size-add, size-part, atLeast0-add, cast-fits, cast-reads, add-fits, add-reads, Halved, signed-size, signed-most}
 use Rattle.fields.specs.Fields.{yearOf, termOf, tonnesOf, yearlyTerm}
+use Rattle.fields.specs.Words.{mostTermTonnes, mostTermTonnesBelow}
 use Rattle.fields.specs.declared.YearlyTerm.{YearlyTerm}
-use Rattle.listing.specs.Layout.{starts}
+use Rattle.listing.specs.Layout.{mostTermWords, starts}
 use Rattle.terms.specs.Terms.{counted, total, termsToDate, mostTerms, mostTermsBelow}
 use Rattle.listing.specs.Accepted.{Accepted}
 use Rattle.listing.proofs.Accepted.{terms-few}
 
 -- ---- one word
 
-halved : (w : ℕ) → Halved 17 (bits w 16 0) 65536
+halved : (w : ℕ) → Halved 17 (bits w 16 0) mostTermTonnesBelow
 halved w = record { some = omega arith; half = refl; below = field-below w 0 17 }
 
-tonnes-size : (w : ℕ) → natAbs (tonnesOf w) ≤ 65536
+tonnes-size : (w : ℕ) → natAbs (tonnesOf w) ≤ mostTermTonnesBelow
 tonnes-size w = signed-size (halved w)
 
 -- a word adds its tonnes or nothing
@@ -34,12 +35,12 @@ counted-is : (P : ℤ → Type 0) (year last w : ℕ) → P (tonnesOf w) → P (
 unfolding counted
 counted-is P year last w p q = by-test P (leb (yearOf w) year && leb (termOf w) last) (tonnesOf w) (pos 0) (λ e. p) (λ e. q)
 
-counted-size : (year last w : ℕ) → natAbs (counted year last w) ≤ 65536
-counted-size year last w = counted-is (λ z. natAbs z ≤ 65536) year last w (tonnes-size w) (omega arith)
+counted-size : (year last w : ℕ) → natAbs (counted year last w) ≤ mostTermTonnesBelow
+counted-size year last w = counted-is (λ z. natAbs z ≤ mostTermTonnesBelow) year last w (tonnes-size w) (omega arith)
 
-counted-most : (year last w : ℕ) → atLeast0 (counted year last w) ≤ 65535
+counted-most : (year last w : ℕ) → atLeast0 (counted year last w) ≤ mostTermTonnes
 unfolding atLeast0
-counted-most year last w = counted-is (λ z. atLeast0 z ≤ 65535) year last w (let h = signed-most (halved w) in omega arith) (omega arith)
+counted-most year last w = counted-is (λ z. atLeast0 z ≤ mostTermTonnes) year last w (let h = signed-most (halved w) in omega arith) (omega arith)
 
 -- t is what `fields::term_of` answered for the word: its tonnes fit an i64, and whether it counts
 module _ (w : ℕ) (t : YearlyTerm) (e : t ≡ yearlyTerm w) where
@@ -66,8 +67,8 @@ unfolding total
 total-bound size none add f m h [] = omega arith
 total-bound size none add f m h (w ∷ ws) = omega (arith, add (f w) (total f ws), h w, total-bound size none add f m h ws)
 
-from-size : (l : List ℕ) (start year last : ℕ) → length l ≤ start + 700 → natAbs (total (counted year last) (drop start l)) ≤ mostTermsBelow
-from-size l start year last h = omega (arith, total-bound natAbs refl size-add (counted year last) 65536 (counted-size year last) (drop start l), length-drop start l)
+from-size : (l : List ℕ) (start year last : ℕ) → length l ≤ start + mostTermWords → natAbs (total (counted year last) (drop start l)) ≤ mostTermsBelow
+from-size l start year last h = omega (arith, total-bound natAbs refl size-add (counted year last) mostTermTonnesBelow (counted-size year last) (drop start l), length-drop start l)
 
 module _ (l : List ℕ) (year last : ℕ) (a : Accepted l) where
   pub terms-size : natAbs (termsToDate l year last) ≤ mostTermsBelow
@@ -76,7 +77,7 @@ module _ (l : List ℕ) (year last : ℕ) (a : Accepted l) where
   pub terms-most : atLeast0 (termsToDate l year last) ≤ mostTerms
   unfolding atLeast0
   terms-most =
-      omega (arith, total-bound atLeast0 refl atLeast0-add (counted year last) 65535 (counted-most year last) (drop (starts l .terms) l), length-drop (starts l .terms) l, terms-few l a)
+      omega (arith, total-bound atLeast0 refl atLeast0-add (counted year last) mostTermTonnes (counted-most year last) (drop (starts l .terms) l), length-drop (starts l .terms) l, terms-few l a)
 
 -- ---- a sum from word `start` on has come to word `at` and to x: x and what is left make the whole
 pub record Part (year last : ℕ) (l : List ℕ) (start at : ℕ) (x : ℤ) : Type 0 where
@@ -101,7 +102,7 @@ module _ {year last : ℕ} {l : List ℕ} {start at : ℕ} {x : ℤ} (p : Part y
   part-end h = sym (+ℤ-idr x) ∙ ap (λ ws. x +ℤ total (counted year last) ws) (sym (drop-of-length-le l {i = at} h)) ∙ p .makes
 
   -- a turn that adds y, what a call gave for word `at`
-  module _ {y : ℤ} (q : y ≡ here) (turn : (start ≤ at) × (at < length l) × (length l ≤ start + 700)) where
+  module _ {y : ℤ} (q : y ≡ here) (turn : (start ≤ at) × (at < length l) × (length l ≤ start + mostTermWords)) where
     room : natAbs x + natAbs here < 2 ^ 63
     room =
         omega (arith, size-part x (total (counted year last) (drop at l)), ap natAbs (p .makes), from-size l at year last (omega arith), from-size l start year last (turn .2), counted-size year last (getD l at 0))

@@ -1,13 +1,14 @@
 -- Document 01, "Book and calls": the yearly terms of a listing to date. N has the terms up to 8, S those up to 5; term 2, peat, is no
 -- word of a listing.
-use Prim.Native.Nat.{ℕ}
+use Prim.Native.Nat.{ℕ, _*_}
 use mathlib.Core.Bool.{cond, _&&_}
 use mathlib.Core.List.{List, [], _∷_}
 use lib.Dec.{leb}
 use lib.ListN.{drop}
 use lib.IntN.{ℤ, pos, _+ℤ_}
 use Rattle.fields.specs.Fields.{termOf, yearOf, tonnesOf}
-use Rattle.listing.specs.Layout.{starts}
+use Rattle.fields.specs.Words.{mostTermTonnes, mostTermTonnesBelow}
+use Rattle.listing.specs.Layout.{mostTermWords, starts}
 
 -- what a word adds to the terms up to `last` of the years 1 to `year`
 unfoldable pub counted : ℕ → ℕ → ℕ → ℤ
@@ -22,9 +23,9 @@ total f (w ∷ ws) = f w +ℤ total f ws
 abbrev pub termsToDate : List ℕ → ℕ → ℕ → ℤ
 termsToDate l year last = total (counted year last) (drop (starts l .terms) l)
 
--- the most that they come to, above zero and below it: 7 terms of 100 years, each from −65,536 to 65,535
+-- the most that they come to, above zero and below it
 abbrev pub mostTerms : ℕ
-mostTerms = 45874500
+mostTerms = mostTermWords * mostTermTonnes
 
 abbrev pub mostTermsBelow : ℕ
-mostTermsBelow = 45875200
+mostTermsBelow = mostTermWords * mostTermTonnesBelow

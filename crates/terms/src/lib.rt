@@ -2,6 +2,7 @@
 ghost use mathlib.Core.Path.{_≡_};
 ghost use Prim.Native.Nat.{_+_, _≤_};
 ghost use lib.ListN.{length, drop};
+ghost use Rattle.listing.specs.Layout.{mostTermWords};
 ghost use Rattle.listing.specs.Accepted.{Accepted};
 ghost use Rattle.terms.specs.Terms.{counted, total, termsToDate};
 
@@ -16,9 +17,9 @@ fn counted(w: u32, year: u32, last: u32) -> i64
     0
 }
 
-// The terms from word `start` on, at most 700.
+// The terms from word `start` on.
 fn terms_from(listing: &[u32], start: usize, year: u32, last: u32) -> i64
-    requires { ⌜ (start ≤ length (now listing)) × (length (now listing) ≤ start + 700) ⌝ }
+    requires { ⌜ (start ≤ length (now listing)) × (length (now listing) ≤ start + mostTermWords) ⌝ }
     ensures { λ r. ⌜ r ≡ total (counted year last) (drop start (now (listing .entry))) ⌝ }
 {
     let mut sum: i64 = 0;
