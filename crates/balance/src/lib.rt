@@ -2,14 +2,15 @@
 // an issue pays.
 ghost use mathlib.Core.Path.{_≡_};
 ghost use Prim.Native.Nat.{_≤_, _<_, _^_};
-ghost use lib.IntN.{natAbs};
+ghost use lib.IntN.{pos, natAbs, _+ℤ_};
 ghost use Rattle.words.specs.Bits.{atLeast0};
 ghost use Rattle.words.specs.Sums.{sumBelow};
 ghost use Rattle.fields.specs.Words.{mostBuffer};
 ghost use Rattle.listing.specs.Layout.{cells};
 ghost use Rattle.listing.specs.Accepted.{Accepted};
+ghost use Rattle.terms.specs.Terms.{mostTermsBelow};
 ghost use Rattle.book.specs.Current.{kgTo, Sound};
-ghost use Rattle.balance.specs.Balance.{peatTonnes, mostPeat, toDate, withheld, balanceOf, mostBalance, mostTonnes, due, tonnesDue};
+ghost use Rattle.balance.specs.Balance.{peatTonnes, mostPeat, withheld, balanceOf, mostBalance, mostTonnes, due, tonnesDue};
 use book::BOOK;
 
 // The kg to date of all cells, added.
@@ -44,12 +45,12 @@ fn at_least_0(z: i64) -> u64
     if z < 0 { 0 } else { z as u64 }
 }
 
-// Terms 1 to `last` of the years 1 to `year`, peat among them: 8 for N, 5 for S.
-fn to_date(listing: &[u32], year: u32, peat: u64, last: u32) -> i64
-    requires { ⌜ Accepted (now listing) × (peat ≤ mostPeat) ⌝ }
-    ensures { λ r. ⌜ r ≡ toDate (now (listing .entry)) year peat last ⌝ }
+// Peat and the other terms to date, added.
+fn with_peat(peat: u64, terms: i64) -> i64
+    requires { ⌜ (peat ≤ mostPeat) × (natAbs terms ≤ mostTermsBelow) ⌝ }
+    ensures { λ r. ⌜ r ≡ pos peat +ℤ terms ⌝ }
 {
-    peat as i64 + terms::terms_to_date(listing, year, last)
+    peat as i64 + terms
 }
 
 // What is withheld of `s` tonnes: `p` percent, rounded up.
@@ -66,8 +67,9 @@ fn balance_of(listing: &[u32], year: u32, peat: u64) -> i64
     ensures { λ r. ⌜ r ≡ balanceOf (now (listing .entry)) year peat ⌝ }
 {
     let p = listing::head(listing).buffer;
-    let n = to_date(listing, year, peat, 8);
-    let s = to_date(listing, year, peat, 5);
+    let t = terms::terms_to_date(listing, year);
+    let n = with_peat(peat, t.all);
+    let s = with_peat(peat, t.buffered);
     n - withheld(p, s) as i64
 }
 

@@ -74,6 +74,20 @@ term-right horizon w h =
       year = (within-least _ _ _ year, within-most _ _ _ year);
     }
 
+pub term-most : {horizon w : ℕ} → TermRight horizon w → termOf w ≤ mostTerm
+term-most {w} r = ⊎-elim (λ (e : termOf w ≡ 1). omega arith) (λ (e : (3 ≤ termOf w) × (termOf w ≤ mostTerm)). e .1) (r .term)
+
+-- terms rise by year
+pub above-year : (before w : ℕ) → isAbove before w ≡ true → yearOf before ≤ yearOf w
+unfolding isAbove
+above-year before w h =
+    let y = yearOf before in
+    let z = yearOf w in
+    ⊎-elim
+    (λ (e : ltb y z ≡ true). omega (arith, ltb-true y z e))
+    (λ (e : (eqb y z && ltb (termOf before) (termOf w)) ≡ true). omega (arith, eqb-true y z (and-left (eqb y z) (ltb (termOf before) (termOf w)) e)))
+    (either (ltb y z) (eqb y z && ltb (termOf before) (termOf w)) h)
+
 -- a term's number, counted through: of a year's, term 1 is the first and term 8 the last
 abbrev numbered : ℕ → ℕ → ℕ
 numbered year term = yearTerms * (year - 1) + (term - 2)

@@ -15,7 +15,8 @@ use Rattle.words.proofs.Answers.{need-says, every-says}
 use Rattle.fields.specs.Words.{mostStrata, mostHorizon, yearTerms, isSizeWord, isDepthWord, isAreaWord, isAbove}
 use Rattle.fields.specs.Right.{SizesWithin, TermRight}
 use Rattle.fields.specs.declared.Head.{Head}
-use Rattle.fields.proofs.Right.{sizes-within, head-right, row-right, cell-right, term-right, number, number-below, number-above}
+use Rattle.fields.specs.Fields.{yearOf}
+use Rattle.fields.proofs.Right.{sizes-within, head-right, row-right, cell-right, term-right, above-year, number, number-below, number-above}
 use Rattle.listing.specs.Layout.{leastWords, cellWords, mostTermWords, head, cells, strata, horizon, startsOf, starts, rowAt, cellAt}
 use Rattle.listing.specs.Check.{isCellWord, wordsChecked, laterChecked, checked}
 use Rattle.listing.specs.Accepted.{InTurn, Accepted}
@@ -122,6 +123,22 @@ terms-few l a =
     let few = a .few in
     let horizon = a .head-right .horizon in
     omega arith
+
+-- terms rise by year
+module _ (l : List ℕ) (a : Accepted l) where
+  rise-by : (j d : ℕ) → starts l .terms ≤ j → j + d < length l → yearOf (getD l j 0) ≤ yearOf (getD l (j + d) 0)
+  rise-by j zero low high =
+      let e : j + 0 ≡ j = omega arith in
+      omega (arith, ap (λ (k : ℕ). yearOf (getD l k 0)) e)
+  rise-by j (suc d) low high =
+      let e : j + suc d - 1 ≡ j + d = omega arith in
+      let up = rw e at (a .rising (j + suc d) (omega arith) high) in
+      omega (arith, above-year (getD l (j + d) 0) (getD l (j + suc d) 0) up, rise-by j d low (omega arith))
+
+  pub years-rise : (j k : ℕ) → starts l .terms ≤ j → j ≤ k → k < length l → yearOf (getD l j 0) ≤ yearOf (getD l k 0)
+  years-rise j k low h high =
+      let e : j + (k - j) ≡ k = omega arith in
+      rw e at (rise-by j (k - j) low (omega arith))
 
 -- ---- of an accepted listing, with h and s what `head` and `starts_of` answered
 

@@ -2,12 +2,14 @@
 -- natural number, and `atLeast0` turns what is subtracted into the difference of natural numbers. Assumes nothing.
 use mathlib.Core.Path.{_≡_, refl, sym, ap, ap₂, _∙_}
 use mathlib.Core.Bool.{Bool, true, false, cond, true≢false}
-use Prim.Native.Nat.{ℕ, zero, suc, _+_, _-_, _^_, _≤_, _<_}
+use Prim.Native.Nat.{ℕ, zero, suc, _+_, _-_, _*_, _^_, _≤_, _<_}
+use native.Mathlib.Nat.{one-mul}
 use native.Mathlib.Omega.{arith}
 use lib.Dec.{T, ltb, eqb}
 use lib.IntN.{ℤ, pos, negsuc, negℤ, subℕ, natAbs, _+ℤ_, _-ℤ_, +ℤ-negℤ-cancel}
 use lib.Signed.{mag, ltZ, nonNeg}
-use lib.Pow.{pow-add, pow-mono}
+use lib.Pow.{pow-add, pow-mono, pow-pos}
+use lib.Bits.{bitXor, xor-comm, xor-self, xor-zero-r, xor-shifted, xor-block}
 use mir.Syntax.{Width, w32}
 use mir.Val.{Fits, SFits, bits, hbits, toZ, ofZ}
 use mir.Facts.{toZ-ofZ, toZ-pos}
@@ -150,7 +152,8 @@ diff-same a b c d h = diff-sub a b ∙ sub-same a b c d h ∙ sym (diff-sub c d)
 pub diff-is : (a b c : ℕ) → a ≡ c + b → pos a -ℤ pos b ≡ pos c
 diff-is a b c h = diff-same a b c 0 (omega arith) ∙ ap pos (omega arith)
 
--- ---- x has `width` bits, and h is 2 ^ (width - 1): as a two's complement number x is h less twice, where it is not below h
+-- ---- x has `width` bits, and h is 2 ^ (width - 1), the highest of them: as a two's complement number x is what it is with that bit the other
+-- way round, less h
 pub record Halved (width x h : ℕ) : Type 0 where
   pub some : (0 < width) × (width < 32)
   pub half : h ≡ 2 ^ (width - 1)
@@ -165,41 +168,46 @@ module _ {width x h : ℕ} (s : Halved width x h) where
   small : h ≤ 2 ^ 30
   small = rw (s .half) (pow-mono {i = width - 1} {j = 30} (omega arith))
 
-  pub half-reads : toZ w32 h ≡ pos h
+  half-reads : toZ w32 h ≡ pos h
   half-reads = toZ-pos w32 (omega (arith, small))
 
-  pub bits-reads : toZ w32 x ≡ pos x
-  bits-reads = toZ-pos w32 (omega (arith, small, whole))
+  -- x with its highest bit the other way round
+  abbrev flipped : ℕ
+  flipped = bitXor x h
 
-  pub bits-fit : SFits w32 (pos x)
-  bits-fit = sfits-size (omega (arith, small, whole))
+  one : h ≡ 1 * 2 ^ (width - 1)
+  one = s .half ∙ sym (one-mul (2 ^ (width - 1)))
+
+  up : x < h → flipped ≡ x + h
+  up lt =
+      let e = s .half in
+      xor-comm x h ∙ ap (λ (m : ℕ). bitXor m x) one ∙ xor-shifted 1 (width - 1) x (omega arith) ∙ omega (arith, one)
+
+  down : h ≤ x → flipped ≡ x - h
+  down le =
+      let k = width - 1 in
+      let e = s .half in
+      let apart : x ≡ 1 * 2 ^ k + (x - h) = omega (arith, one) in
+      let alone : h ≡ 1 * 2 ^ k + 0 = omega (arith, one) in
+      ap₂ bitXor apart alone ∙ xor-block k 1 1 (x - h) 0 (omega (arith, whole)) (pow-pos k) ∙ ap₂ (λ (a b : ℕ). a * 2 ^ k + b) (xor-self 1) (xor-zero-r (x - h)) ∙ omega arith
+
+  flipped-below : flipped < 2 ^ 31
+  flipped-below = by-less x h (λ lt. omega (arith, up lt, small)) (λ le. omega (arith, down le, small, whole))
+
+  pub flipped-fits : SFits w32 (pos flipped)
+  flipped-fits = sfits-size flipped-below
 
   pub half-fits : SFits w32 (pos h)
   half-fits = sfits-size (omega (arith, small))
 
-  pub signed-plus : x < h → toZ w32 x ≡ twosComplement width x
+  -- so without h it is the number
+  signed-is : toZ w32 flipped -ℤ toZ w32 h ≡ twosComplement width x
   unfolding twosComplement
-  signed-plus lt = simp (bits-reads, ← s .half, lt-ltb x h lt)
-
-  module _ (le : h ≤ x) where
-    once-is : toZ w32 x -ℤ toZ w32 h ≡ pos (x - h)
-    once-is = ap₂ (λ a b. a -ℤ b) bits-reads half-reads ∙ diff-is x h (x - h) (omega arith)
-
-    pub once-fits : SFits w32 (toZ w32 x -ℤ toZ w32 h)
-    once-fits = cast-fits w32 (pos (x - h)) once-is (omega (arith, small, whole))
-
-    once : toZ w32 (ofZ w32 (toZ w32 x -ℤ toZ w32 h)) ≡ pos (x - h)
-    once = cast-reads w32 (pos (x - h)) once-is (omega (arith, small, whole))
-
-    pub twice-fits : SFits w32 (toZ w32 (ofZ w32 (toZ w32 x -ℤ toZ w32 h)) -ℤ toZ w32 h)
-    twice-fits = sub-fits w32 (pos (x - h)) once (pos h) half-reads (omega (arith, small, whole))
-
-    pub signed-minus : toZ w32 (ofZ w32 (toZ w32 (ofZ w32 (toZ w32 x -ℤ toZ w32 h)) -ℤ toZ w32 h)) ≡ twosComplement width x
-    unfolding twosComplement
-    signed-minus =
-        sub-reads w32 (pos (x - h)) once (pos h) half-reads (omega (arith, small, whole))
-        ∙ diff-same (x - h) h x (2 ^ width) (omega (arith, whole))
-        ∙ simp (← s .half, le-ltb x h le)
+  signed-is =
+      ap₂ (λ a b. a -ℤ b) (toZ-pos w32 flipped-below) half-reads
+      ∙ by-less x h
+      (λ lt. diff-is flipped h x (up lt) ∙ simp (← s .half, lt-ltb x h lt))
+      (λ le. diff-same flipped h x (2 ^ width) (omega (arith, down le, whole)) ∙ simp (← s .half, le-ltb x h le))
 
   -- its size is at most h, and above 0 it is below h
   pub signed-size : natAbs (twosComplement width x) ≤ h
@@ -215,3 +223,9 @@ module _ {width x h : ℕ} (s : Halved width x h) where
       by-test (λ z. atLeast0 z < h) (ltb x (2 ^ (width - 1))) (pos x) (pos x -ℤ pos (2 ^ width))
       (λ e. omega (arith, ltb-true x (2 ^ (width - 1)) e))
       (λ e. omega (arith, ltb-false x (2 ^ (width - 1)) e, atLeast0-less (pos x) (2 ^ width), whole))
+
+  pub signed-fits : SFits w32 (toZ w32 flipped -ℤ toZ w32 h)
+  signed-fits = cast-fits w32 (twosComplement width x) signed-is (omega (arith, signed-size, small))
+
+  pub signed-reads : toZ w32 (ofZ w32 (toZ w32 flipped -ℤ toZ w32 h)) ≡ twosComplement width x
+  signed-reads = cast-reads w32 (twosComplement width x) signed-is (omega (arith, signed-size, small))

@@ -114,10 +114,7 @@ pub fn signed_bits(w: u32, high: u32, low: u32) -> i32
 {
     let x = bits(w, high, low);
     let half = 1u32 << (high - low);
-    if x < half {
-        return x as i32;
-    }
-    x as i32 - half as i32 - half as i32
+    (x ^ half) as i32 - half as i32
 }
 
 // Whether `w` is of a kind, by its bits 31 to 28.

@@ -71,10 +71,14 @@ fn measured(name: &[u8], reading: Reading) {
     valued(name, reading::depth(reading));
 }
 
-// Whether the terms up to `last` of the years 1 to `year` come to `tonnes`.
+// Whether the terms up to `last`, 5 or 8, of the years 1 to `year` come to `tonnes`.
 fn terms_are(listing: &[u32], year: u32, last: u32, tonnes: i64) -> bool {
     match listing::check(listing) {
-        Outcome::Done => terms::terms_to_date(listing, year, last) == tonnes,
+        Outcome::Done => {
+            let sums = terms::terms_to_date(listing, year);
+            let sum = if last == 5 { sums.buffered } else { sums.all };
+            sum == tonnes
+        }
         Outcome::Refused(_) => false,
     }
 }

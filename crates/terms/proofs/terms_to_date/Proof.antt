@@ -1,27 +1,38 @@
--- `terms::terms_to_date` meets its contract: the terms are what stands behind the cells. Assumes nothing.
-use mathlib.Core.Path.{ap, _∙_}
-use Prim.Native.Nat.{ℕ}
-use lib.ListN.{drop}
-use mir.Syntax.{w64}
+-- `terms::terms_to_date` meets its contract: the terms are what stands behind the cells, and those to date come first. Assumes nothing.
+use mathlib.Core.Path.{_≡_, _∙_}
 use denote.Ref.{now}
 use borrow.Author.Needs.{needs}
-use Rattle.words.proofs.Signed.{call-reads}
-use Rattle.terms.specs.Terms.{counted, total}
+use Rattle.listing.specs.Layout.{starts}
 use Rattle.listing.proofs.Accepted.{accepted-sizes, terms-by}
+use Rattle.terms.proofs.Sums.{first-all, first-up-to, first-few}
 use Rattle.terms.proofs.terms_to_date.Statement.{statement}
 use Rattle.terms.proofs.terms_to_date.Tie as tie
 
-terms-from-requires : tie.Need-terms-from-requires
-terms-from-requires c κs =
-    let t = terms-by _ _ _ (c .before .head .ensures) (c .starts-of .ensures) (c .before .before .before .pre) in
-    (t .1, t .2)
+begins : (c : tie.After-starts-of) → c .starts-of .result .terms ≡ starts (now (c .before .before .before .args .listing)) .terms
+begins c = terms-by _ _ _ (c .before .head .ensures) (c .starts-of .ensures) (c .before .before .before .pre) .0
+
+added-requires : tie.Need-added-requires
+added-requires c κs =
+    let t = c .before .before in
+    first-few _ _ (t .before .before .before .pre) (begins t) (c .before .end-of-year .ensures)
 
 returns : tie.Need-returns
 returns c =
-    let s = c .before .before .before .before in
-    let t = terms-by _ _ _ (c .before .before .head .ensures) (c .before .starts-of .ensures) (s .pre) in
-    call-reads w64 (c .terms-from .ok) (c .terms-from .ensures)
-    ∙ ap (λ (k : ℕ). total (counted (s .args .year) (s .args .last)) (drop k (now (s .args .listing)))) (t .0)
+    let e = c .before .before in
+    let t = e .before in
+    let a = t .before .before .before .pre in
+    (c .added .ensures .0 ∙ first-all _ _ a (begins t) (e .end-of-year .ensures), c .added .ensures .1 ∙ first-up-to _ _ a (begins t) (e .end-of-year .ensures) 5)
 
 pub terms-to-date-spec : {M : Type 1} → statement M
-terms-to-date-spec = tie.close (tie.spec (λ c κs. search needs) (λ c κs. search (needs, accepted-sizes)) terms-from-requires returns)
+terms-to-date-spec =
+    tie.close
+    (tie.spec
+    (λ c κs. search needs)
+    (λ c κs. search (needs, accepted-sizes))
+    (λ c κs. (c .before .before .before .pre, begins c))
+    (λ c. search needs)
+    (λ c. search needs)
+    (λ c. search needs)
+    (λ c. search needs)
+    added-requires
+    returns)

@@ -1,11 +1,11 @@
--- `words::signed_bits` meets its contract: half of 2 ^ width is taken off twice, since 2 ^ 31 is no i32. Assumes nothing.
+-- `words::signed_bits` meets its contract: the sign's bit is turned round and its worth taken off. Assumes nothing.
 use mathlib.Core.Path.{ap, _∙_}
 use Prim.Native.Nat.{ℕ, _+_, _-_, _*_, _%_, _^_}
 use native.Mathlib.Omega.{arith}
 use borrow.Author.Needs.{needs}
 use Rattle.words.specs.Bits.{twosComplement}
 use Rattle.words.proofs.Fields.{one-shl, field-below}
-use Rattle.words.proofs.Signed.{Halved, bits-fit, half-fits, signed-plus, once-fits, twice-fits, signed-minus}
+use Rattle.words.proofs.Signed.{Halved, flipped-fits, half-fits, signed-fits, signed-reads}
 use Rattle.words.proofs.signed_bits.Statement.{statement}
 use Rattle.words.proofs.signed_bits.Tie as tie
 
@@ -27,11 +27,7 @@ signed-bits-spec =
     (λ c κs. search needs)
     (λ c. search needs)
     (λ c. search needs)
-    (λ c. bits-fit (halved (c .before)))
-    (λ c. signed-plus (halved (c .before)) (c .if1 .taken) ∙ ap (twosComplement _) (c .before .bits .ensures))
-    (λ c. bits-fit (halved (c .before)))
-    (λ c. half-fits (halved (c .before)))
-    (λ c. once-fits (halved (c .before)) (c .if1 .left))
-    (λ c. half-fits (halved (c .before)))
-    (λ c. twice-fits (halved (c .before)) (c .if1 .left))
-    (λ c. signed-minus (halved (c .before)) (c .if1 .left) ∙ ap (twosComplement _) (c .before .bits .ensures)))
+    (λ c. flipped-fits (halved c))
+    (λ c. half-fits (halved c))
+    (λ c. signed-fits (halved c))
+    (λ c. signed-reads (halved c) ∙ ap (twosComplement _) (c .bits .ensures)))
