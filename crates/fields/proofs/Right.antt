@@ -5,12 +5,13 @@ use mathlib.Core.Bool.{Bool, true, false, _&&_, _||_}
 use Prim.Native.Nat.{ℕ, _+_, _-_, _*_, _≤_, _<_}
 use native.Mathlib.Omega.{arith}
 use lib.Dec.{eqb, ltb}
-use borrow.Author.Tests.{ltb-true, eqb-true}
+use borrow.Author.Tests.{ltb-true, eqb-true, lt-ltb, le-ltb, eq-eqb, ne-eqb}
 use Rattle.words.specs.Bits.{within}
-use Rattle.words.proofs.Fields.{field-most}
+use Rattle.words.proofs.Fields.{field-below, field-most}
+use Rattle.words.proofs.Signed.{by-less, by-equal}
 use Rattle.words.proofs.Answers.{and-left, and-right, within-least, within-most}
 use Rattle.fields.specs.Fields.{cellsOf, strataOf, horizonOf, bufferOf, warmingOf, methaneOf, stratumOf, conversionOf, enteredOf, areaOf, densityOf, termOf, yearOf, headOf, rowOf, cellOf}
-use Rattle.fields.specs.Words.{mostCells, mostStrata, mostHorizon, mostBuffer, mostWarming, mostMethane, mostDepth, mostArea, mostDensity, mostTerm, yearTerms, isSizeWord, isFigureWord, isDepthWord, isAreaWord, isTermWord, isAbove}
+use Rattle.fields.specs.Words.{mostCells, mostStrata, mostHorizon, mostBuffer, mostWarming, mostMethane, mostDepth, mostArea, mostDensity, mostTerm, yearTerms, isSizeWord, isFigureWord, isDepthWord, isAreaWord, isTermWord, termOrder, isAbove}
 use Rattle.fields.specs.Right.{SizesWithin, HeadRight, RowRight, CellRight, Listed, TermRight}
 
 pub sizes-within : (w v : ℕ) → isSizeWord w ≡ true → SizesWithin (headOf w v)
@@ -63,6 +64,23 @@ cell-right strata horizon w v p q =
 either : (a b : Bool) → (a || b) ≡ true → (a ≡ true) ⊎ (b ≡ true)
 either true b h = inl refl
 either false b h = inr h
+
+-- the order of terms is that of a number
+by-order : (y z s t : ℕ) → s < 16 → t < 16 → ltb (y * 16 + s) (z * 16 + t) ≡ (ltb y z || (eqb y z && ltb s t))
+by-order y z s t p q =
+    by-less y z
+    (λ h. rw (lt-ltb y z h, lt-ltb (y * 16 + s) (z * 16 + t) (omega arith)))
+    (λ h.
+    by-equal y z
+    (λ e.
+    by-less s t
+    (λ k. rw (le-ltb y z h, eq-eqb y z e, lt-ltb s t k, lt-ltb (y * 16 + s) (z * 16 + t) (omega arith)))
+    (λ k. rw (le-ltb y z h, eq-eqb y z e, le-ltb s t k, le-ltb (y * 16 + s) (z * 16 + t) (omega arith))))
+    (λ n. rw (le-ltb y z h, ne-eqb y z n, le-ltb (y * 16 + s) (z * 16 + t) (omega arith))))
+
+pub above-order : (before w : ℕ) → ltb (termOrder before) (termOrder w) ≡ isAbove before w
+unfolding termOrder isAbove
+above-order before w = by-order (yearOf before) (yearOf w) (termOf before) (termOf w) (field-below before 24 4) (field-below w 24 4)
 
 pub term-right : (horizon w : ℕ) → isTermWord horizon w ≡ true → TermRight horizon w
 unfolding isTermWord

@@ -1,7 +1,7 @@
 // The words of a project's listing, each by itself: which are right, and what they say.
 ghost use mathlib.Core.Path.{_≡_};
 ghost use Rattle.fields.specs.Fields.{headOf, rowOf, cellOf, yearlyTerm};
-ghost use Rattle.fields.specs.Words.{isSizeWord, isFigureWord, isTableWord, isDepthWord, isAreaWord, isTermWord, isAbove};
+ghost use Rattle.fields.specs.Words.{isSizeWord, isFigureWord, isTableWord, isDepthWord, isAreaWord, isTermWord, termOrder, isAbove};
 use words::between;
 use words::bits;
 use words::is_kind;
@@ -123,13 +123,18 @@ pub fn is_term_word(w: u32, horizon: u32) -> bool
         & between(w, 23, 17, 1, horizon)
 }
 
+// A term's place in the order of terms: by year, then by term, which has 4 bits.
+pub fn term_order(w: u32) -> u32
+    ensures { λ r. ⌜ r ≡ termOrder w ⌝ }
+{
+    bits(w, 23, 17) * 16 + bits(w, 27, 24)
+}
+
 // Whether a term is of a later year than the one before, or of the same year and a higher term.
 pub fn is_above(before: u32, w: u32) -> bool
     ensures { λ r. ⌜ r ≡ isAbove before w ⌝ }
 {
-    let last = term_of(before);
-    let next = term_of(w);
-    (last.year < next.year) | ((last.year == next.year) & (last.term < next.term))
+    term_order(before) < term_order(w)
 }
 
 // What words 0 and 1 say.

@@ -127,15 +127,22 @@ fn first_cell(listing: &[u32], strata: u32, horizon: u32, start: usize, end: usi
     at
 }
 
-// Whether every term is right.
+// Whether there are terms, each of them right and above the one before: without a branch for each
+// word, since most listings are.
 fn terms_clean(listing: &[u32], horizon: u32, start: usize) -> bool
     requires { ⌜ start ≤ length (now listing) ⌝ }
-    ensures { λ r. ⌜ (r ≡ true → length (now (listing .entry)) ≡ firstWrong (termRight (now (listing .entry)) horizon) start (length (now (listing .entry)))) ⌝ }
+    ensures { λ r. ⌜ (r ≡ true → (length (now (listing .entry)) ≡ firstWrong (termRight (now (listing .entry)) horizon) start (length (now (listing .entry)))) × (length (now (listing .entry)) ≡ firstWrong (aboveRight (now (listing .entry))) (start + 1) (length (now (listing .entry))))) ⌝ }
 {
-    let mut clean = true;
-    let mut at = start;
+    if listing.len() <= start {
+        return false;
+    }
+    let mut clean = fields::is_term_word(listing[start], horizon);
+    let mut last = fields::term_order(listing[start]);
+    let mut at = start + 1;
     while at < listing.len() {
-        clean = clean & fields::is_term_word(listing[at], horizon);
+        let next = fields::term_order(listing[at]);
+        clean = clean & fields::is_term_word(listing[at], horizon) & (last < next);
+        last = next;
         at += 1;
     }
     clean
@@ -146,9 +153,6 @@ fn first_term(listing: &[u32], horizon: u32, start: usize) -> usize
     requires { ⌜ start ≤ length (now listing) ⌝ }
     ensures { λ r. ⌜ r ≡ firstWrong (termRight (now (listing .entry)) horizon) start (length (now (listing .entry))) ⌝ }
 {
-    if terms_clean(listing, horizon, start) {
-        return listing.len();
-    }
     let mut at = start;
     while at < listing.len() {
         if !fields::is_term_word(listing[at], horizon) {
@@ -159,29 +163,12 @@ fn first_term(listing: &[u32], horizon: u32, start: usize) -> usize
     at
 }
 
-// Whether there are terms and each is above the one before.
-fn terms_rise(listing: &[u32], start: usize) -> bool
-    requires { ⌜ start ≤ length (now listing) ⌝ }
-    ensures { λ r. ⌜ (r ≡ true → length (now (listing .entry)) ≡ firstWrong (aboveRight (now (listing .entry))) (start + 1) (length (now (listing .entry)))) ⌝ }
-{
-    let mut clean = true;
-    let mut at = start + 1;
-    while at < listing.len() {
-        clean = clean & fields::is_above(listing[at - 1], listing[at]);
-        at += 1;
-    }
-    clean & (at == listing.len())
-}
-
 // The first term that is not above the one before; where there is none, the length, or one more
 // where there is no term.
 fn first_not_above(listing: &[u32], start: usize) -> usize
     requires { ⌜ start ≤ length (now listing) ⌝ }
     ensures { λ r. ⌜ r ≡ firstWrong (aboveRight (now (listing .entry))) (start + 1) (length (now (listing .entry))) ⌝ }
 {
-    if terms_rise(listing, start) {
-        return listing.len();
-    }
     let mut at = start + 1;
     while at < listing.len() {
         if !fields::is_above(listing[at - 1], listing[at]) {
@@ -267,6 +254,9 @@ fn check_words(listing: &[u32], h: Head, s: Starts) -> Outcome
     let cell = first_cell(listing, h.strata, h.horizon, s.cells, s.terms);
     if cell < s.terms {
         return refuse(LATER_WORD, cell);
+    }
+    if terms_clean(listing, h.horizon, s.terms) {
+        return Outcome::Done;
     }
     let term = first_term(listing, h.horizon, s.terms);
     let later = first_not_above(listing, s.terms);

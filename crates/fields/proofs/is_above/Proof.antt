@@ -1,10 +1,10 @@
--- `fields::is_above` meets its contract: its tests are the definition's. Assumes nothing.
+-- `fields::is_above` meets its contract: the order of terms is that of a number. Assumes nothing.
+use mathlib.Core.Path.{ap₂, _∙_}
+use lib.Dec.{ltb}
 use borrow.Author.Needs.{needs}
-use Rattle.fields.specs.Fields.{yearlyTerm}
-use Rattle.fields.specs.Words.{isAbove}
+use Rattle.fields.proofs.Right.{above-order}
 use Rattle.fields.proofs.is_above.Statement.{statement}
 use Rattle.fields.proofs.is_above.Tie as tie
 
 pub is-above-spec : {M : Type 1} → statement M
-unfolding isAbove yearlyTerm
-is-above-spec = tie.close (tie.spec (λ c κs. search needs) (λ c κs. search needs) (λ c. let d = c .before .before .before .before .before .before in rw (d .before .term-of .ensures, d .term-of2 .ensures)))
+is-above-spec = tie.close (tie.spec (λ c κs. search needs) (λ c κs. search needs) (λ c. ap₂ ltb (c .before .term-order .ensures) (c .term-order2 .ensures) ∙ above-order _ _))

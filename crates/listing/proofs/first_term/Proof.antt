@@ -1,4 +1,4 @@
--- `listing::first_term` meets its contract: a pass finds all right, or else the search has come to `at`. Assumes nothing.
+-- `listing::first_term` meets its contract: the search has come to `at`. Assumes nothing.
 use Prim.Native.Nat.{_-_, _≤_}
 use lib.ListN.{length}
 use Rattle.listing.specs.Check.{termRight}
@@ -18,8 +18,6 @@ first-term-spec =
     (tie.spec
     Inv-loop
     μ-loop
-    (λ c κs. search steps)
-    (λ c. c .before .terms-clean .ensures (c .if1 .taken))
     (λ c. search steps)
     (λ c. search steps)
     (λ c. search steps)

@@ -1,16 +1,62 @@
--- `listing::terms_clean` meets its contract: while `clean` is true, the search has come to `at`. Assumes nothing.
-use Prim.Native.Nat.{_-_, _≤_}
-use lib.ListN.{length}
-use Rattle.listing.specs.Check.{termRight}
-use Rattle.words.proofs.Steps.{Clean, steps}
+-- `listing::terms_clean` meets its contract: while `clean` is true, both searches have come to `at`. Assumes nothing.
+use mathlib.Core.Path.{_≡_, ap, ap₂, _∙_}
+use mathlib.Core.Bool.{Bool, true, _&&_, false≢true}
+use mathlib.Core.List.{List}
+use Prim.Native.Nat.{ℕ, _+_, _-_, _<_, _≤_}
+use native.Mathlib.Omega.{arith}
+use lib.Dec.{ltb}
+use lib.ListN.{length, getD}
+use denote.Ref.{now}
+use Rattle.words.proofs.Answers.{and-left}
+use Rattle.words.proofs.Steps.{Clean, clean-none, clean-more, clean-all, steps}
+use Rattle.fields.specs.Words.{termOrder}
+use Rattle.fields.proofs.Right.{above-order}
+use Rattle.listing.specs.Check.{termRight, aboveRight}
 use Rattle.listing.proofs.terms_clean.Statement.{statement}
 use Rattle.listing.proofs.terms_clean.Tie as tie
 
+-- one test more takes nothing away
+clean-less : {right : ℕ → Bool} {from to at : ℕ} (clean b : Bool) → Clean right from to at clean → Clean right from to at (clean && b)
+clean-less clean b p = record { passed = λ t. p .passed (and-left clean b t) }
+
 abbrev Inv-loop : tie.InvT-loop
-Inv-loop listing horizon start clean₀ at₀ clean at = (at ≤ length listing) × Clean (termRight listing horizon) start (length listing) at clean
+Inv-loop listing horizon start clean₀ last₀ at₀ clean last at =
+    (start < at) × (at ≤ length listing) × (last ≡ termOrder (getD listing (at - 1) 0)) × Clean (termRight listing horizon) start (length listing) at clean × Clean (aboveRight listing) (start + 1) (length listing) at clean
 
 abbrev μ-loop : tie.MeasureT-loop
-μ-loop listing horizon start clean₀ at₀ clean at = length listing - at
+μ-loop listing horizon start clean₀ last₀ at₀ clean last at = length listing - at
+
+-- the word before the next
+order-before : (l : List ℕ) (k x : ℕ) → x ≡ termOrder (getD l k 0) → x ≡ termOrder (getD l (k + 1 - 1) 0)
+order-before l k x e =
+    let same : k ≡ k + 1 - 1 = omega arith in
+    e ∙ ap (λ (m : ℕ). termOrder (getD l m 0)) same
+
+loop-holds : tie.Need-loop-holds Inv-loop μ-loop
+loop-holds c =
+    let term = c .before .before in
+    let start = term .before .before .before .before in
+    (omega arith, omega arith, order-before (now (start .args .listing)) (start .args .start) _ (c .term-order .ensures), clean-more true _ clean-none (omega arith) (term .is-term-word .ensures), clean-none)
+
+-- by name, so that another place or another test is refused where it stands
+loop-again : tie.Need-loop-again Inv-loop μ-loop
+loop-again c =
+    let order = c .before .before in
+    let loop = order .before .before .before in
+    let inv = loop .loop .inv in
+    let l = now (loop .before .before .before .before .before .before .before .args .listing) in
+    let term = clean-more _ _ (inv .3) (omega arith) (c .is-term-word2 .ensures) in
+    let above = ap₂ ltb (inv .2) (order .term-order2 .ensures) ∙ above-order _ _ in
+    (omega arith, omega arith, order-before l (loop .loop .at) _ (order .term-order2 .ensures), clean-less _ _ term, clean-more _ _ (clean-less _ _ (inv .4)) (omega arith) above)
+
+-- where there is no term it does not say that all is right
+returns : tie.Need-returns Inv-loop μ-loop
+returns c t = absurd (false≢true t)
+
+returns-2 : tie.Need-returns-2 Inv-loop μ-loop
+returns-2 c t =
+    let inv = c .before .loop .inv in
+    (clean-all _ (inv .3) (omega arith) (omega arith) t, clean-all _ (inv .4) (omega arith) (omega arith) t)
 
 pub terms-clean-spec : {M : Type 1} → statement M
 terms-clean-spec =
@@ -18,11 +64,22 @@ terms-clean-spec =
     (tie.spec
     Inv-loop
     μ-loop
-    (λ c. search steps)
+    returns
     (λ c. search steps)
     (λ c. search steps)
     (λ c κs. search steps)
     (λ c. search steps)
     (λ c. search steps)
+    (λ c κs. search steps)
     (λ c. search steps)
-    (λ c. search steps))
+    loop-holds
+    (λ c. search steps)
+    (λ c. search steps)
+    (λ c κs. search steps)
+    (λ c. search steps)
+    (λ c. search steps)
+    (λ c κs. search steps)
+    (λ c. search steps)
+    (λ c. search steps)
+    loop-again
+    returns-2)
