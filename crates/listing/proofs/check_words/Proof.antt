@@ -1,35 +1,71 @@
 -- `listing::check_words` meets its contract: its tests are the definition's, one after the other. Assumes nothing.
-use mathlib.Core.Path.{refl}
+use mathlib.Core.Path.{_≡_, refl}
+use Prim.Native.Nat.{_+_}
 use native.Mathlib.Omega.{arith}
+use lib.ListN.{length}
+use denote.Ref.{now}
 use borrow.Author.Needs.{needs}
-use Rattle.words.proofs.Answers.{found, found-none, answers}
-use Rattle.listing.specs.Check.{wordsChecked}
+use Rattle.words.specs.Answers.{Answer, accepted, every}
+use Rattle.words.specs.Refusals.{laterWord, termNotAbove}
+use Rattle.words.proofs.Answers.{found, found-none}
+use Rattle.listing.specs.Check.{termRight, aboveRight, wordsChecked}
 use Rattle.listing.proofs.check_words.Statement.{statement}
 use Rattle.listing.proofs.check_words.Tie as tie
 
--- by name, so that another place or another test is refused where it stands
-clean : tie.Need-returns-3
+-- each return by name, so that another place or another test is refused where it stands
+in-tables : tie.Need-returns
 unfolding wordsChecked
-clean c =
-    let third = c .before .before in
-    let second = third .before .before .before in
-    let right = c .before .terms-clean .ensures (c .if3 .taken) in
-    found-none _ _ _ _ _ _ (second .before .before .first-table .ensures) (second .if1 .left)
-    (found-none _ _ _ _ _ _ (third .before .before .first-cell .ensures) (third .if2 .left)
-    (found-none _ _ _ _ _ _ (right .0) (omega arith)
-    (found-none _ _ _ _ _ _ (right .1) (omega arith) refl)))
+in-tables c = found _ _ _ _ _ _ (c .before .before .before .first-table .ensures) (omega (arith, c .before .if1 .taken)) (c .refuse .ensures)
 
-term : tie.Need-returns-4
+in-cells : tie.Need-returns-2
 unfolding wordsChecked
-term c =
-    let third = c .before .before .before .before .before .before in
-    let second = third .before .before .before in
-    found-none _ _ _ _ _ _ (second .before .before .first-table .ensures) (second .if1 .left)
-    (found-none _ _ _ _ _ _ (third .before .before .first-cell .ensures) (third .if2 .left)
-    (found _ _ _ _ _ _ (c .before .before .before .first-term .ensures) (c .before .if4 .taken) (c .refuse3 .ensures)))
+in-cells c =
+    let second = c .before .before .before .before in
+    found-none _ _ _ _ _ _ (second .before .before .first-table .ensures) (omega (arith, second .if1 .left))
+    (found _ _ _ _ _ _ (c .before .before .before .first-cell .ensures) (omega (arith, c .before .if2 .taken)) (c .refuse2 .ensures))
+
+-- past the cells the answer is that of the terms
+module _ (e : tie.Else2) where
+  abbrev start : tie.Start
+  start = e .before .before .before .before .before .before .before .before .before
+
+  abbrev rest : Answer
+  rest =
+      let l = now (start .args .listing) in
+      let s = start .args .s in
+      every laterWord (termRight l (start .args .h .horizon)) (s .terms) (length l) (every termNotAbove (aboveRight l) (s .terms + 1) (length l) (accepted 0))
+
+  past : {v : Answer} → v ≡ rest → v ≡ wordsChecked (now (start .args .listing)) (start .args .h) (start .args .s)
+  unfolding wordsChecked
+  past r =
+      let second = e .before .before .before in
+      found-none _ _ _ _ _ _ (second .before .before .first-table .ensures) (omega (arith, second .if1 .left))
+      (found-none _ _ _ _ _ _ (e .before .before .first-cell .ensures) (omega (arith, e .if2 .left)) r)
+
+clean : tie.Need-returns-3
+clean c =
+    let right = c .before .terms-clean .ensures (c .if3 .taken) in
+    past (c .before .before) (found-none _ _ _ _ _ _ (right .0) (omega arith) (found-none _ _ _ _ _ _ (right .1) (omega arith) refl))
+
+wrong-term : tie.Need-returns-4
+wrong-term c =
+    past (c .before .before .before .before .before .before) (found _ _ _ _ _ _ (c .before .before .before .first-term .ensures) (omega (arith, c .before .if4 .taken)) (c .refuse3 .ensures))
+
+not-above : tie.Need-returns-5
+not-above c =
+    let fourth = c .before .before in
+    past (fourth .before .before .before .before .before)
+    (found-none _ _ _ _ _ _ (fourth .before .before .first-term .ensures) (omega (arith, fourth .if4 .left))
+    (found _ _ _ _ _ _ (fourth .before .first-not-above .ensures) (omega (arith, c .before .if5 .taken)) (c .refuse4 .ensures)))
+
+all-right : tie.Need-returns-6
+all-right c =
+    let fourth = c .before in
+    past (fourth .before .before .before .before .before)
+    (found-none _ _ _ _ _ _ (fourth .before .before .first-term .ensures) (omega (arith, fourth .if4 .left))
+    (found-none _ _ _ _ _ _ (fourth .before .first-not-above .ensures) (omega (arith, c .if5 .left)) refl))
 
 pub check-words-spec : {M : Type 1} → statement M
-unfolding wordsChecked
 check-words-spec =
     tie.close
     (tie.spec
@@ -37,16 +73,16 @@ check-words-spec =
     (λ c. search needs)
     (λ c κs. search needs)
     (λ c κs. search needs)
-    (λ c. search answers depth 8)
+    in-tables
     (λ c κs. search needs)
     (λ c κs. search needs)
-    (λ c. search answers depth 8)
+    in-cells
     (λ c κs. search needs)
     clean
     (λ c κs. search needs)
     (λ c κs. search needs)
     (λ c κs. search needs)
-    term
+    wrong-term
     (λ c κs. search needs)
-    (λ c. search answers depth 8)
-    (λ c. search answers depth 8))
+    not-above
+    all-right)

@@ -1,5 +1,6 @@
 -- `terms::up_to` meets its contract: its test is the definition's. Assumes nothing.
 use mathlib.Core.Path.{_∙_}
+use native.Mathlib.Omega.{arith}
 use mir.Syntax.{w64}
 use borrow.Author.Needs.{needs}
 use Rattle.words.proofs.Signed.{call-reads}
@@ -13,5 +14,5 @@ up-to-spec =
     (tie.spec
     (λ c κs. search needs)
     (λ c κs. search needs)
-    (λ c. call-reads w64 (c .tonnes .ok) (c .tonnes .ensures) ∙ within-last _ _ (c .before .before .before .term-of .ensures) _ (c .before .if1 .taken))
-    (λ c. after-last _ _ (c .before .before .term-of .ensures) _ (c .if1 .left)))
+    (λ c. call-reads w64 (c .tonnes .ok) (c .tonnes .ensures) ∙ within-last _ _ (c .before .before .before .term-of .ensures) _ (omega (arith, c .before .if1 .taken)))
+    (λ c. after-last _ _ (c .before .before .term-of .ensures) _ (omega (arith, c .if1 .left))))
