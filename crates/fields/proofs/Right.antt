@@ -1,12 +1,12 @@
 -- What the tests of words say of their fields. Assumes nothing.
 use mathlib.Core.Path.{_≡_, refl}
 use mathlib.Core.Logic.{_⊎_, inl, inr, ⊎-elim}
-use mathlib.Core.Bool.{Bool, true, false, not, _&&_, _||_}
+use mathlib.Core.Bool.{Bool, true, false, _&&_, _||_}
 use Prim.Native.Nat.{ℕ, _+_, _-_, _*_, _≤_, _<_}
 use native.Mathlib.Omega.{arith}
-use lib.Dec.{eqb, ltb, leb}
-use borrow.Author.Tests.{ltb-true, eqb-true, lt-ltb, le-ltb, le-leb, lt-leb, eq-eqb, ne-eqb}
-use Rattle.words.specs.Bits.{isKind, within}
+use lib.Dec.{eqb, ltb}
+use borrow.Author.Tests.{ltb-true, eqb-true, lt-ltb, le-ltb, eq-eqb, ne-eqb}
+use Rattle.words.specs.Bits.{within}
 use Rattle.words.proofs.Fields.{field-below, field-most}
 use Rattle.words.proofs.Signed.{by-less, by-equal}
 use Rattle.words.proofs.Answers.{and-left, and-right, within-least, within-most}
@@ -64,25 +64,6 @@ cell-right strata horizon w v p q =
 either : (a b : Bool) → (a || b) ≡ true → (a ≡ true) ⊎ (b ≡ true)
 either true b h = inl refl
 either false b h = inr h
-
--- 1 or 3 to 8: not 0, not 2, and not above 8
-listed-test : (t : ℕ) → (not (eqb t 0) && not (eqb t 2) && leb t mostTerm) ≡ (eqb t 1 || within 3 mostTerm t)
-unfolding within
-listed-test t =
-    by-equal t 0 (λ e. rw e)
-    (λ n.
-    by-equal t 1 (λ e. rw e)
-    (λ m.
-    by-equal t 2 (λ e. rw e)
-    (λ k.
-    by-less mostTerm t
-    (λ h. rw (ne-eqb t 0 n, ne-eqb t 1 m, ne-eqb t 2 k, le-leb 3 t (omega arith), lt-leb t mostTerm h))
-    (λ h. rw (ne-eqb t 0 n, ne-eqb t 1 m, ne-eqb t 2 k, le-leb 3 t (omega arith), le-leb t mostTerm h)))))
-
--- with what the program's calls gave for a word
-pub term-test : (horizon w : ℕ) {kind year : Bool} {term : ℕ} → kind ≡ isKind 6 w → term ≡ termOf w → year ≡ within 1 horizon (yearOf w) → (kind && (not (eqb term 0) && not (eqb term 2) && leb term mostTerm) && year) ≡ isTermWord horizon w
-unfolding isTermWord
-term-test horizon w k t y = rw (k, t, y, listed-test (termOf w))
 
 -- the order of terms is that of a number
 by-order : (y z s t : ℕ) → s < 16 → t < 16 → ltb (y * 16 + s) (z * 16 + t) ≡ (ltb y z || (eqb y z && ltb s t))

@@ -28,10 +28,8 @@ const MOST_AREA: u32 = 10_000;
 
 const MOST_DENSITY: u32 = 2_400;
 
-// The highest term, and that of peat, which is no word of a listing.
+// The highest term.
 const MOST_TERM: u32 = 8;
-
-const PEAT_TERM: u32 = 2;
 
 // What is said of the project as a whole. The guard and the thickness, the least of peat, are in mm.
 pub struct Head {
@@ -120,9 +118,9 @@ pub fn is_area_word(w: u32) -> bool
 pub fn is_term_word(w: u32, horizon: u32) -> bool
     ensures { λ r. ⌜ r ≡ isTermWord horizon w ⌝ }
 {
-    let term = bits(w, 27, 24);
-    let listed = (term != 0) & (term != PEAT_TERM) & (term <= MOST_TERM);
-    is_kind(w, 6) & listed & between(w, 23, 17, 1, horizon)
+    is_kind(w, 6)
+        & ((bits(w, 27, 24) == 1) | between(w, 27, 24, 3, MOST_TERM))
+        & between(w, 23, 17, 1, horizon)
 }
 
 // A term's place in the order of terms: by year, then by term, which has 4 bits.
