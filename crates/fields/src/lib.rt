@@ -1,11 +1,13 @@
 // The words of a project's listing, each by itself: which are right, and what they say.
 ghost use mathlib.Core.Path.{_≡_};
+ghost use Rattle.words.specs.Bits.{isKind};
 ghost use Rattle.fields.specs.Fields.{headOf, rowOf, cellOf, yearlyTerm};
 ghost use Rattle.fields.specs.Words.{isSizeWord, isFigureWord, isTableWord, isDepthWord, isAreaWord, isTermWord, termOrder, isAbove};
 use words::between;
 use words::bits;
 use words::is_kind;
 use words::signed_bits;
+use words::word;
 
 // The limits of word 0.
 pub const MOST_CELLS: u32 = 256;
@@ -92,6 +94,14 @@ pub fn is_table_word(w: u32) -> bool
     ensures { λ r. ⌜ r ≡ isTableWord w ⌝ }
 {
     is_kind(w, 3)
+}
+
+// The bits in which w is not the word of a table with all values 0: bits 31 to 28 are 0 where w is
+// a word of a table, so that many words can be joined by `|` and tested once.
+pub fn table_fault(w: u32) -> u32
+    ensures { λ r. ⌜ isKind 0 r ≡ isTableWord w ⌝ }
+{
+    w ^ word(3, 0)
 }
 
 // Whether w is right as a cell's first word.

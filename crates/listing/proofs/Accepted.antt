@@ -53,12 +53,12 @@ pub turn-depth : (strata horizon turn w : ℕ) → turn ≡ 0 → isDepthWord st
 unfolding isCellWord
 turn-depth strata horizon turn w e = rw (eq-eqb turn 0 e)
 
-pub turn-other : (strata horizon turn w : ℕ) → (turn ≡ 0 → ⊥) → isAreaWord w ≡ isCellWord strata horizon turn w
+pub not-depth : (strata horizon turn w : ℕ) → (turn ≡ 0 → ⊥) → isAreaWord w ≡ isCellWord strata horizon turn w
 unfolding isCellWord
-turn-other strata horizon turn w n = rw (ne-eqb turn 0 n)
+not-depth strata horizon turn w n = rw (ne-eqb turn 0 n)
 
 pub turn-area : (strata horizon turn w : ℕ) → turn ≡ 1 → isAreaWord w ≡ isCellWord strata horizon turn w
-turn-area strata horizon turn w e = turn-other strata horizon turn w (λ z. omega arith)
+turn-area strata horizon turn w e = not-depth strata horizon turn w (λ z. omega arith)
 
 -- ---- the terms
 

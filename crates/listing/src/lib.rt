@@ -21,6 +21,7 @@ use words::LISTING_SHORT;
 use words::Outcome;
 use words::TERM_NOT_ABOVE;
 use words::TOO_FEW_WORDS;
+use words::is_kind;
 use words::refuse;
 
 // The words that every listing has.
@@ -61,13 +62,13 @@ fn tables_clean(listing: &[u32], start: usize, end: usize) -> bool
     requires { ⌜ (start ≤ end) × (end ≤ length (now listing)) ⌝ }
     ensures { λ r. ⌜ (r ≡ true → end ≡ firstWrong (tableRight (now (listing .entry))) start end) ⌝ }
 {
-    let mut clean = true;
+    let mut faults: u32 = 0;
     let mut at = start;
     while at < end {
-        clean = clean & fields::is_table_word(listing[at]);
+        faults = faults | fields::table_fault(listing[at]);
         at += 1;
     }
-    clean
+    is_kind(faults, 0)
 }
 
 // The first word of the tables that is not right; where there is none, `end`.
@@ -127,7 +128,7 @@ fn first_cell(listing: &[u32], strata: u32, horizon: u32, start: usize, end: usi
     at
 }
 
-// Whether there are terms, each of them right and above the one before: without a branch for each
+// Whether there are terms, each of them valid and above the one before: without a branch for each
 // word, since most listings are.
 fn terms_clean(listing: &[u32], horizon: u32, start: usize) -> bool
     requires { ⌜ start ≤ length (now listing) ⌝ }

@@ -175,8 +175,8 @@ module _ (l : List ℕ) (year : ℕ) (a : Accepted l) {start end : ℕ} (e : sta
       (λ w h. sym (counted-later year last w h))
       ∙ ap (λ (k : ℕ). total (counted year last) (drop k l)) e
 
-  pub first-few : length (take (end - start) (drop start l)) ≤ mostTermWords
-  first-few = omega (arith, length-take (end - start) (drop start l), length-drop start l, terms-few l a)
+  pub first-most : length (take (end - start) (drop start l)) ≤ mostTermWords
+  first-most = omega (arith, length-take (end - start) (drop start l), length-drop start l, terms-few l a)
 
 -- ---- a sum has come to word `at` and to x: x and what is left make the whole
 pub record Part (f : ℕ → ℤ) (l : List ℕ) (at : ℕ) (x : ℤ) : Type 0 where

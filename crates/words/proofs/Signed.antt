@@ -152,8 +152,8 @@ diff-same a b c d h = diff-sub a b ∙ sub-same a b c d h ∙ sym (diff-sub c d)
 pub diff-is : (a b c : ℕ) → a ≡ c + b → pos a -ℤ pos b ≡ pos c
 diff-is a b c h = diff-same a b c 0 (omega arith) ∙ ap pos (omega arith)
 
--- ---- x has `width` bits, and h is 2 ^ (width - 1), the highest of them: as a two's complement number x is what it is with that bit the other
--- way round, less h
+-- ---- x has `width` bits, and h is 2 ^ (width - 1), the highest of them: as a two's complement number x is what it is with that bit inverted,
+-- less h
 pub record Halved (width x h : ℕ) : Type 0 where
   pub some : (0 < width) × (width < 32)
   pub half : h ≡ 2 ^ (width - 1)
@@ -171,7 +171,7 @@ module _ {width x h : ℕ} (s : Halved width x h) where
   half-reads : toZ w32 h ≡ pos h
   half-reads = toZ-pos w32 (omega (arith, small))
 
-  -- x with its highest bit the other way round
+  -- x with its highest bit inverted
   abbrev flipped : ℕ
   flipped = bitXor x h
 

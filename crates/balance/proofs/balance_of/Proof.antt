@@ -39,20 +39,20 @@ module _ (c : tie.After-terms-to-date) where
   abbrev terms : ℕ → ℤ
   terms last = termsToDate (now (start .args .listing)) (start .args .year) last
 
-  few : (last : ℕ) → natAbs (terms last) ≤ mostTermsBelow
-  few last = terms-size (now (start .args .listing)) (start .args .year) last (start .pre .0)
+  bounded : (last : ℕ) → natAbs (terms last) ≤ mostTermsBelow
+  bounded last = terms-size (now (start .args .listing)) (start .args .year) last (start .pre .0)
 
   all : toZ w64 (ofZ w64 (c .terms-to-date .result .all)) ≡ terms 8
-  all = cast-reads w64 (terms 8) (c .terms-to-date .ensures .0) (omega (arith, few 8))
+  all = cast-reads w64 (terms 8) (c .terms-to-date .ensures .0) (omega (arith, bounded 8))
 
   buffered : toZ w64 (ofZ w64 (c .terms-to-date .result .buffered)) ≡ terms 5
-  buffered = cast-reads w64 (terms 5) (c .terms-to-date .ensures .1) (omega (arith, few 5))
+  buffered = cast-reads w64 (terms 5) (c .terms-to-date .ensures .1) (omega (arith, bounded 5))
 
 with-peat-requires : tie.Need-with-peat-requires
-with-peat-requires c κs = let t = c .before in (start t .pre .1, omega (arith, ap natAbs (all t), few t 8))
+with-peat-requires c κs = let t = c .before in (start t .pre .1, omega (arith, ap natAbs (all t), bounded t 8))
 
 with-peat-requires-2 : tie.Need-with-peat-requires-2
-with-peat-requires-2 c κs = let t = c .before .before .before in (start t .pre .1, omega (arith, ap natAbs (buffered t), few t 5))
+with-peat-requires-2 c κs = let t = c .before .before .before in (start t .pre .1, omega (arith, ap natAbs (buffered t), bounded t 5))
 
 -- S
 module _ (c : tie.After-with-peat2) where

@@ -42,8 +42,8 @@ module _ (e : tie.Else2) where
       found-none _ _ _ _ _ _ (second .before .before .first-table .ensures) (omega (arith, second .if1 .left))
       (found-none _ _ _ _ _ _ (e .before .before .first-cell .ensures) (omega (arith, e .if2 .left)) r)
 
-clean : tie.Need-returns-3
-clean c =
+by-pass : tie.Need-returns-3
+by-pass c =
     let right = c .before .terms-clean .ensures (c .if3 .taken) in
     past (c .before .before) (found-none _ _ _ _ _ _ (right .0) (omega arith) (found-none _ _ _ _ _ _ (right .1) (omega arith) refl))
 
@@ -58,8 +58,8 @@ not-above c =
     (found-none _ _ _ _ _ _ (fourth .before .before .first-term .ensures) (omega (arith, fourth .if4 .left))
     (found _ _ _ _ _ _ (fourth .before .first-not-above .ensures) (omega (arith, c .before .if5 .taken)) (c .refuse4 .ensures)))
 
-all-right : tie.Need-returns-6
-all-right c =
+nothing-wrong : tie.Need-returns-6
+nothing-wrong c =
     let fourth = c .before in
     past (fourth .before .before .before .before .before)
     (found-none _ _ _ _ _ _ (fourth .before .before .first-term .ensures) (omega (arith, fourth .if4 .left))
@@ -78,11 +78,11 @@ check-words-spec =
     (λ c κs. search needs)
     in-cells
     (λ c κs. search needs)
-    clean
+    by-pass
     (λ c κs. search needs)
     (λ c κs. search needs)
     (λ c κs. search needs)
     wrong-term
     (λ c κs. search needs)
     not-above
-    all-right)
+    nothing-wrong)

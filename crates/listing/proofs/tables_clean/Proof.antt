@@ -1,19 +1,37 @@
--- `listing::tables_clean` meets its contract: while `clean` is true, the search has come to `at`. Assumes nothing.
-use Prim.Native.Nat.{_-_, _≤_}
+-- `listing::tables_clean` meets its contract: while the faults are of kind 0, the search has come to `at`. Assumes nothing.
+use mathlib.Core.Path.{_≡_, sym, _∙_}
+use mathlib.Core.Bool.{Bool, true, _&&_}
+use Prim.Native.Nat.{ℕ, _+_, _-_, _<_, _≤_}
+use lib.Bits.{bitOr}
+use Rattle.words.specs.Bits.{isKind}
+use Rattle.words.proofs.Steps.{Clean, clean-none, clean-more, clean-all, steps}
+use Rattle.fields.proofs.SameKind.{joined-kind}
 use Rattle.listing.specs.Check.{tableRight}
-use Rattle.words.proofs.Steps.{Clean, clean-more, steps}
 use Rattle.listing.proofs.tables_clean.Statement.{statement}
 use Rattle.listing.proofs.tables_clean.Tie as tie
 
 abbrev Inv-loop : tie.InvT-loop
-Inv-loop listing start end clean₀ at₀ clean at = (at ≤ end) × Clean (tableRight listing) start end at clean
+Inv-loop listing start end faults₀ at₀ faults at = (at ≤ end) × Clean (tableRight listing) start end at (isKind 0 faults)
 
 abbrev μ-loop : tie.MeasureT-loop
-μ-loop listing start end clean₀ at₀ clean at = end - at
+μ-loop listing start end faults₀ at₀ faults at = end - at
+
+both-true : (a b : Bool) → a ≡ true → b ≡ true → (a && b) ≡ true
+both-true a b p q = rw (p, q)
+
+-- with the faults of a word more
+faults-more : {right : ℕ → Bool} {from to at : ℕ} (faults fault : ℕ) → Clean right from to at (isKind 0 faults) → at < to → isKind 0 fault ≡ right at → Clean right from to (at + 1) (isKind 0 (bitOr faults fault))
+faults-more faults fault p h e =
+    let more = clean-more _ _ p h e in
+    record {
+      passed = λ t.
+          let kinds = joined-kind faults fault t in
+          more .passed (both-true _ _ (kinds .0) (kinds .1));
+    }
 
 -- by name, so that another place or another test is refused where it stands
 again : tie.Need-loop-again Inv-loop μ-loop
-again c = (search steps, clean-more _ _ (c .before .before .before .loop .inv .1) (search steps) (c .is-table-word .ensures))
+again c = (search steps, faults-more _ _ (c .before .before .before .loop .inv .1) (search steps) (c .table-fault .ensures))
 
 pub tables-clean-spec : {M : Type 1} → statement M
 tables-clean-spec =
@@ -21,11 +39,12 @@ tables-clean-spec =
     (tie.spec
     Inv-loop
     μ-loop
-    (λ c. search steps)
+    (λ c. (search steps, clean-none))
     (λ c. search steps)
     (λ c. search steps)
     (λ c κs. search steps)
     (λ c. search steps)
     (λ c. search steps)
     again
-    (λ c. search steps))
+    (λ c κs. search steps)
+    (λ c t. clean-all _ (c .before .before .loop .inv .1) (search steps) (search steps) (sym (c .is-kind .ensures) ∙ t)))

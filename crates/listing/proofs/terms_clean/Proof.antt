@@ -16,8 +16,8 @@ use Rattle.listing.proofs.terms_clean.Statement.{statement}
 use Rattle.listing.proofs.terms_clean.Tie as tie
 
 -- one test more takes nothing away
-clean-less : {right : ℕ → Bool} {from to at : ℕ} (clean b : Bool) → Clean right from to at clean → Clean right from to at (clean && b)
-clean-less clean b p = record { passed = λ t. p .passed (and-left clean b t) }
+with-test : {right : ℕ → Bool} {from to at : ℕ} (clean b : Bool) → Clean right from to at clean → Clean right from to at (clean && b)
+with-test clean b p = record { passed = λ t. p .passed (and-left clean b t) }
 
 abbrev Inv-loop : tie.InvT-loop
 Inv-loop listing horizon start clean₀ last₀ at₀ clean last at =
@@ -47,7 +47,7 @@ loop-again c =
     let l = now (loop .before .before .before .before .before .before .before .args .listing) in
     let term = clean-more _ _ (inv .3) (omega arith) (c .is-term-word2 .ensures) in
     let above = ap₂ ltb (inv .2) (order .term-order2 .ensures) ∙ above-order _ _ in
-    (omega arith, omega arith, order-before l (loop .loop .at) _ (order .term-order2 .ensures), clean-less _ _ term, clean-more _ _ (clean-less _ _ (inv .4)) (omega arith) above)
+    (omega arith, omega arith, order-before l (loop .loop .at) _ (order .term-order2 .ensures), with-test _ _ term, clean-more _ _ (with-test _ _ (inv .4)) (omega arith) above)
 
 -- where there is no term it does not say that all is right
 returns : tie.Need-returns Inv-loop μ-loop

@@ -4,7 +4,7 @@ use denote.Ref.{now}
 use borrow.Author.Needs.{needs}
 use Rattle.listing.specs.Layout.{starts}
 use Rattle.listing.proofs.Accepted.{accepted-sizes, terms-by}
-use Rattle.terms.proofs.Sums.{first-all, first-up-to, first-few}
+use Rattle.terms.proofs.Sums.{first-all, first-up-to, first-most}
 use Rattle.terms.proofs.terms_to_date.Statement.{statement}
 use Rattle.terms.proofs.terms_to_date.Tie as tie
 
@@ -14,7 +14,7 @@ begins c = terms-by _ _ _ (c .before .head .ensures) (c .starts-of .ensures) (c 
 added-requires : tie.Need-added-requires
 added-requires c κs =
     let t = c .before .before in
-    first-few _ _ (t .before .before .before .pre) (begins t) (c .before .end-of-year .ensures)
+    first-most _ _ (t .before .before .before .pre) (begins t) (c .before .end-of-year .ensures)
 
 returns : tie.Need-returns
 returns c =

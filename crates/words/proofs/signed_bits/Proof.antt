@@ -1,4 +1,4 @@
--- `words::signed_bits` meets its contract: the sign's bit is turned round and its worth taken off. Assumes nothing.
+-- `words::signed_bits` meets its contract: the sign's bit is inverted, and its worth taken off. Assumes nothing.
 use mathlib.Core.Path.{ap, _∙_}
 use Prim.Native.Nat.{ℕ, _+_, _-_, _*_, _%_, _^_}
 use native.Mathlib.Omega.{arith}
