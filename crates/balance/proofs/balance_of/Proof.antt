@@ -48,11 +48,16 @@ module _ (c : tie.After-terms-to-date) where
   buffered : toZ w64 (ofZ w64 (c .terms-to-date .result .buffered)) ≡ terms 5
   buffered = cast-reads w64 (terms 5) (c .terms-to-date .ensures .1) (omega (arith, bounded 5))
 
+-- peat and both sums are small, whichever is asked for
 with-peat-requires : tie.Need-with-peat-requires
-with-peat-requires c κs = let t = c .before in (start t .pre .1, omega (arith, ap natAbs (all t), bounded t 8))
+with-peat-requires c κs =
+    let t = c .before in
+    (omega (arith, start t .pre .1), omega (arith, ap natAbs (all t), ap natAbs (buffered t), bounded t 8, bounded t 5))
 
 with-peat-requires-2 : tie.Need-with-peat-requires-2
-with-peat-requires-2 c κs = let t = c .before .before .before in (start t .pre .1, omega (arith, ap natAbs (buffered t), bounded t 5))
+with-peat-requires-2 c κs =
+    let t = c .before .before .before in
+    (omega (arith, start t .pre .1), omega (arith, ap natAbs (all t), ap natAbs (buffered t), bounded t 8, bounded t 5))
 
 -- S
 module _ (c : tie.After-with-peat2) where
