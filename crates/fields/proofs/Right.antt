@@ -11,8 +11,8 @@ use Rattle.words.proofs.Fields.{field-below, field-most}
 use Rattle.words.proofs.Signed.{by-less, by-equal}
 use Rattle.words.proofs.Answers.{and-left, and-right, within-least, within-most}
 use Rattle.fields.specs.Fields.{cellsOf, strataOf, horizonOf, bufferOf, warmingOf, methaneOf, stratumOf, conversionOf, enteredOf, areaOf, densityOf, termOf, yearOf, headOf, rowOf, cellOf}
-use Rattle.fields.specs.Words.{mostCells, mostStrata, mostHorizon, mostBuffer, mostWarming, mostMethane, mostDepth, mostArea, mostDensity, mostTerm, yearTerms, isSizeWord, isFigureWord, isDepthWord, isAreaWord, isTermWord, termOrder, isAbove}
-use Rattle.fields.specs.Right.{SizesWithin, HeadRight, RowRight, CellRight, Listed, TermRight}
+use Rattle.fields.specs.Words.{mostCells, mostStrata, mostHorizon, mostBuffer, mostWarming, mostMethane, mostDepth, mostArea, mostDensity, mostTerm, yearTerms, isSizeWord, isFigureWord, isDepthWord, isAreaWord, isTermWord, isAbove}
+use Rattle.fields.specs.Right.{SizesWithin, HeadRight, RowRight, CellRight, Listed, TermRight, termOrder}
 
 pub sizes-within : (w v : ℕ) → isSizeWord w ≡ true → SizesWithin (headOf w v)
 unfolding isSizeWord headOf

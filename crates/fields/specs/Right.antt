@@ -1,7 +1,7 @@
 -- What right words guarantee, for the contracts of the crates above. proofs/Right.antt makes it from the tests.
 use mathlib.Core.Path.{_≡_}
 use mathlib.Core.Logic.{_⊎_}
-use Prim.Native.Nat.{ℕ, _≤_, _<_}
+use Prim.Native.Nat.{ℕ, _+_, _*_, _≤_, _<_}
 use Rattle.fields.specs.Fields.{termOf, yearOf}
 use Rattle.fields.specs.Words.{mostCells, mostStrata, mostHorizon, mostBuffer, mostWarming, mostMethane, mostDepth, mostArea, mostDensity, mostTerm}
 use Rattle.fields.specs.declared.Head.{Head}
@@ -45,3 +45,7 @@ Listed term = (term ≡ 1) ⊎ ((3 ≤ term) × (term ≤ mostTerm))
 pub record TermRight (horizon w : ℕ) : Type 0 where
   pub term : Listed (termOf w)
   pub year : (1 ≤ yearOf w) × (yearOf w ≤ horizon)
+
+-- a number that has the order of terms, by year, then term, which has 4 bits
+unfoldable pub termOrder : ℕ → ℕ
+termOrder w = yearOf w * 16 + termOf w

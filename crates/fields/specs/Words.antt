@@ -1,5 +1,5 @@
 -- Document 01, "Project listing": which words are right, each by itself, and the order of terms.
-use Prim.Native.Nat.{ℕ, _+_, _*_}
+use Prim.Native.Nat.{ℕ}
 use mathlib.Core.Bool.{Bool, _&&_, _||_}
 use lib.Dec.{ltb, eqb}
 use Rattle.words.specs.Bits.{bits, within, isKind}
@@ -72,10 +72,6 @@ isAreaWord w = isKind 5 w && eqb (bits w 27 26) 0 && within 1 mostArea (areaOf w
 -- a term: 1 or 3 to 8, a year of 1 to the horizon; every number of tonnes is allowed
 unfoldable pub isTermWord : ℕ → ℕ → Bool
 isTermWord horizon w = isKind 6 w && (eqb (termOf w) 1 || within 3 mostTerm (termOf w)) && within 1 horizon (yearOf w)
-
--- by year, then term: a term has 4 bits
-unfoldable pub termOrder : ℕ → ℕ
-termOrder w = yearOf w * 16 + termOf w
 
 -- terms rise strictly by year, then term
 unfoldable pub isAbove : ℕ → ℕ → Bool

@@ -2,7 +2,8 @@
 ghost use mathlib.Core.Path.{_≡_};
 ghost use Rattle.words.specs.Bits.{isKind};
 ghost use Rattle.fields.specs.Fields.{headOf, rowOf, cellOf, yearlyTerm};
-ghost use Rattle.fields.specs.Words.{isSizeWord, isFigureWord, isTableWord, isDepthWord, isAreaWord, isTermWord, termOrder, isAbove};
+ghost use Rattle.fields.specs.Words.{isSizeWord, isFigureWord, isTableWord, isDepthWord, isAreaWord, isTermWord, isAbove};
+ghost use Rattle.fields.specs.Right.{termOrder};
 use words::between;
 use words::bits;
 use words::is_kind;

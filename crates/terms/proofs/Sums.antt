@@ -20,7 +20,8 @@ use Rattle.fields.specs.Words.{mostTerm, mostTermTonnes, mostTermTonnesBelow}
 use Rattle.fields.specs.declared.YearlyTerm.{YearlyTerm}
 use Rattle.fields.proofs.Right.{term-most}
 use Rattle.listing.specs.Layout.{mostTermWords, starts}
-use Rattle.terms.specs.Terms.{counted, total, termsToDate, upTo, Split, mostTerms, mostTermsBelow}
+use Rattle.terms.specs.Terms.{counted, total, termsToDate, mostTerms, mostTermsBelow}
+use Rattle.terms.specs.Split.{upTo, Split}
 use Rattle.listing.specs.Accepted.{Accepted}
 use Rattle.listing.proofs.Accepted.{terms-few, years-rise}
 

@@ -1,2 +1,3 @@
 -- What the contracts of terms, and of the crates above it, cite.
 pub mod Terms
+pub mod Split

@@ -1,10 +1,10 @@
 -- Document 01, "Book and calls": the yearly terms of a listing to date. N has the terms up to 8, S those up to 5; term 2, peat, is no
 -- word of a listing.
-use Prim.Native.Nat.{ℕ, _*_, _≤_, _<_}
+use Prim.Native.Nat.{ℕ, _*_}
 use mathlib.Core.Bool.{cond, _&&_}
 use mathlib.Core.List.{List, [], _∷_}
 use lib.Dec.{leb}
-use lib.ListN.{length, getD, drop}
+use lib.ListN.{drop}
 use lib.IntN.{ℤ, pos, _+ℤ_}
 use Rattle.fields.specs.Fields.{termOf, yearOf, tonnesOf}
 use Rattle.fields.specs.Words.{mostTermTonnes, mostTermTonnesBelow}
@@ -23,19 +23,7 @@ total f (w ∷ ws) = f w +ℤ total f ws
 abbrev pub termsToDate : List ℕ → ℕ → ℕ → ℤ
 termsToDate l year last = total (counted year last) (drop (starts l .terms) l)
 
--- ---- the same in the order of the listing, for the contracts that lead to it; proofs/Sums.antt says that it comes to that
-
--- what a word of a year to date adds to the terms up to `last`
-unfoldable pub upTo : ℕ → ℕ → ℤ
-upTo last w = cond (leb (termOf w) last) (tonnesOf w) (pos 0)
-
--- of the words from `start` on, those before `low` are of the years 1 to `year`, and those from `high` on are of later years
-pub record Split (l : List ℕ) (year start low high : ℕ) : Type 0 where
-  pub ordered : (start ≤ low) × (low ≤ high) × (high ≤ length l)
-  pub before : (k : ℕ) → start ≤ k → k < low → yearOf (getD l k 0) ≤ year
-  pub after : (k : ℕ) → high ≤ k → k < length l → year < yearOf (getD l k 0)
-
--- ---- the most that the terms come to, above zero and below it
+-- the most that they come to, above zero and below it
 abbrev pub mostTerms : ℕ
 mostTerms = mostTermWords * mostTermTonnes
 

@@ -5,7 +5,8 @@ ghost use lib.ListN.{length};
 ghost use Rattle.fields.specs.Fields.{tonnesOf};
 ghost use Rattle.listing.specs.Layout.{mostTermWords, starts};
 ghost use Rattle.listing.specs.Accepted.{Accepted};
-ghost use Rattle.terms.specs.Terms.{upTo, total, termsToDate, Split};
+ghost use Rattle.terms.specs.Terms.{total, termsToDate};
+ghost use Rattle.terms.specs.Split.{upTo, Split};
 
 // The last term that the buffer percentage is taken of.
 const LAST_BUFFERED: u32 = 5;

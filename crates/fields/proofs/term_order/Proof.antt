@@ -1,7 +1,7 @@
 -- `fields::term_order` meets its contract: the year has 7 bits, so that the number is small. Assumes nothing.
 use native.Mathlib.Omega.{arith}
 use borrow.Author.Needs.{needs}
-use Rattle.fields.specs.Words.{termOrder}
+use Rattle.fields.specs.Right.{termOrder}
 use Rattle.fields.proofs.term_order.Statement.{statement}
 use Rattle.fields.proofs.term_order.Tie as tie
 

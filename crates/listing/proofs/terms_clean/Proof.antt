@@ -9,7 +9,7 @@ use lib.ListN.{length, getD}
 use denote.Ref.{now}
 use Rattle.words.proofs.Answers.{and-left}
 use Rattle.words.proofs.Steps.{Clean, clean-none, clean-more, clean-all, steps}
-use Rattle.fields.specs.Words.{termOrder}
+use Rattle.fields.specs.Right.{termOrder}
 use Rattle.fields.proofs.Right.{above-order}
 use Rattle.listing.specs.Check.{termRight, aboveRight}
 use Rattle.listing.proofs.terms_clean.Statement.{statement}

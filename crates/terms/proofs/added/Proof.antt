@@ -6,7 +6,7 @@ use mir.Val.{toZ}
 use borrow.Author.Needs.{needs}
 use Rattle.words.proofs.Signed.{call-reads}
 use Rattle.fields.specs.Fields.{tonnesOf}
-use Rattle.terms.specs.Terms.{upTo}
+use Rattle.terms.specs.Split.{upTo}
 use Rattle.terms.proofs.Sums.{tonnes-size, up-to-size, Part, part-none, part-adds, part-turn, part-end}
 use Rattle.terms.proofs.added.Statement.{statement}
 use Rattle.terms.proofs.added.Tie as tie

@@ -3,7 +3,7 @@ use Prim.Native.Nat.{ℕ, _+_, _-_, _/_, _≤_, _<_}
 use native.Mathlib.Omega.{arith}
 use denote.Ref.{now}
 use borrow.Author.Needs.{needs}
-use Rattle.terms.specs.Terms.{Split}
+use Rattle.terms.specs.Split.{Split}
 use Rattle.terms.proofs.Sums.{year-is, split-none, split-met, split-above, split-below}
 use Rattle.terms.proofs.end_of_year.Statement.{statement}
 use Rattle.terms.proofs.end_of_year.Tie as tie
