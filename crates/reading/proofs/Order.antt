@@ -12,7 +12,7 @@ use lib.Ieee.Fits.{down-pos}
 use lib.Pow.{pow-pos}
 use borrow.Author.Tests.{lt-ltb, ltb-true, ltb-false, le-leb, lt-leb, leb-true}
 use Rattle.words.proofs.Answers.{and-left, and-right}
-use Rattle.reading.specs.Metres.{isFinite, over, under, between, inCore, inLevel, Ends}
+use Rattle.reading.specs.Metres.{isFinite, over, under, between, deepestCore, lowestLevel, highestLevel, inCore, inLevel, Ends}
 
 -- ---- the order of whole numbers with a sign
 pub neg-neg : (a b : ℕ) → leZ (negℤ (pos a)) (negℤ (pos b)) ≡ leb b a
@@ -100,25 +100,25 @@ inside low high x h =
     let r = and-right (isFinite x) (a && b) h in
     record { finite = and-left (isFinite x) (a && b) h; least = and-left a b r; most = and-right a b r }
 
-pub core-inside : (x : Float) → inCore x ≡ true → Inside (pos 0) (pos 20) x
+pub core-inside : (x : Float) → inCore x ≡ true → Inside (pos 0) (pos deepestCore) x
 unfolding inCore
-core-inside x h = inside (pos 0) (pos 20) x h
+core-inside x h = inside (pos 0) (pos deepestCore) x h
 
-pub level-inside : (x : Float) → inLevel x ≡ true → Inside (negℤ (pos 100)) (pos 3000) x
+pub level-inside : (x : Float) → inLevel x ≡ true → Inside (negℤ (pos lowestLevel)) (pos highestLevel) x
 unfolding inLevel
-level-inside x h = inside (negℤ (pos 100)) (pos 3000) x h
+level-inside x h = inside (negℤ (pos lowestLevel)) (pos highestLevel) x h
 
 -- the integer over a denominator d
 module _ (d : ℕ) where
   pub at-least : (l a : ℕ) → leZ (negℤ (pos l) *ℤ pos d) (negsuc a) ≡ true → suc a ≤ l * d
   at-least l a h = leb-true (suc a) (l * d) (sym (neg-neg (l * d) (suc a)) ∙ ap (λ (i : ℤ). leZ i (negsuc a)) (sym (times true l d)) ∙ h)
 
-  wide : (z : ℤ) → leZ (pos 0 *ℤ pos d) z ≡ true → leZ (negℤ (pos 100) *ℤ pos d) z ≡ true
-  wide (pos a) h = neg-pos (100 * d) a
+  wide : (z : ℤ) → leZ (pos 0 *ℤ pos d) z ≡ true → leZ (negℤ (pos lowestLevel) *ℤ pos d) z ≡ true
+  wide (pos a) h = neg-pos (lowestLevel * d) a
   wide (negsuc a) h = absurd (false≢true h)
 
-  tall : (z : ℤ) → leZ z (pos 20 *ℤ pos d) ≡ true → leZ z (pos 3000 *ℤ pos d) ≡ true
-  tall (pos a) h = let k = leb-true a (20 * d) h in le-leb a (3000 * d) (omega arith)
+  tall : (z : ℤ) → leZ z (pos deepestCore *ℤ pos d) ≡ true → leZ z (pos highestLevel *ℤ pos d) ≡ true
+  tall (pos a) h = let k = leb-true a (deepestCore * d) h in le-leb a (highestLevel * d) (omega arith)
   tall (negsuc a) h = refl
 
 -- a core is a level

@@ -1,6 +1,6 @@
 -- The bit pattern of a level: the bits of its exponent and of its fraction give its exact size. Assumes nothing.
 use mathlib.Core.Path.{_≡_, refl, sym, ap, _∙_, subst}
-use Prim.Native.Nat.{ℕ, suc, _+_, _-_, _*_, _/_, _%_, _^_, _≤_, _<_}
+use Prim.Native.Nat.{ℕ, zero, suc, _+_, _-_, _*_, _/_, _%_, _^_, _≤_, _<_}
 use native.Mathlib.Nat.{le-trans, le-of-eq, lt-of-lt-of-le, lt-of-le-of-lt, lt-of-not-le, lt-irrefl, mul-assoc, mul-right-comm, mul-one, mul-le-mul-right, lt-of-mul-lt-mul-right, mul-lt-mul-of-pos-right, eq-of-mul-eq-mul-right}
 use native.Mathlib.Omega.{arith}
 use mathlib.Core.Bool.{Bool, true, false, not, cond, false≢true}
@@ -14,7 +14,7 @@ use lib.Ieee.Exact.{HasValue, odd-sign}
 use borrow.Author.Tests.{leb-true}
 use Rattle.words.specs.Bits.{bits}
 use Rattle.words.proofs.Signed.{size-neg}
-use Rattle.reading.specs.Metres.{isFinite, over, under, inLevel, Parted}
+use Rattle.reading.specs.Metres.{isFinite, over, under, lowestLevel, highestLevel, inLevel}
 use Rattle.reading.proofs.Order.{under-pos, level-inside, at-least}
 
 pub no-nan : (x : Float) → inLevel x ≡ true → T (not (isNan x))
@@ -24,9 +24,9 @@ no-nan (inf s) h = tt
 no-nan (fin s m e) h = tt
 
 -- a level's size is below 2 ^ 12
-sized : (z : ℤ) (d : ℕ) → 0 < d → leZ (negℤ (pos 100) *ℤ pos d) z ≡ true → leZ z (pos 3000 *ℤ pos d) ≡ true → natAbs z < 2 ^ 12 * d
-sized (pos a) d D l h = let k = leb-true a (3000 * d) h in omega arith
-sized (negsuc a) d D l h = omega (arith, at-least d 100 a l)
+sized : (z : ℤ) (d : ℕ) → 0 < d → leZ (negℤ (pos lowestLevel) *ℤ pos d) z ≡ true → leZ z (pos highestLevel *ℤ pos d) ≡ true → natAbs z < 2 ^ 12 * d
+sized (pos a) d D l h = let k = leb-true a (highestLevel * d) h in omega arith
+sized (negsuc a) d D l h = omega (arith, at-least d lowestLevel a l)
 
 -- of a float that has the value a / c
 cross : (x : Float) (s : Bool) (a c : ℕ) → HasValue x s a c → natAbs (over x) * c ≡ a * under x
@@ -76,7 +76,26 @@ full-field s j t f =
     let v = odd 24 s q j 149 in
     subst (λ (x : Float). Units x (q * 2 ^ j)) (sym (no-top (eqb (suc j) 255) (eqb t 0) s v f)) (cross v s (q * 2 ^ j) (2 ^ 149) (odd-sign 24 s q j 149))
 
--- ---- what `take_apart` cites, of a level x that the format holds, and of the bits e and t of its pattern
+-- ---- a float's parts: without its sign it is exactly mantissa / 2 ^ places, and the mantissa has at most 24 binary digits
+pub record Parted (x : Float) (mantissa places : ℕ) : Type 0 where
+  pub value : natAbs (over x) * 2 ^ places ≡ mantissa * under x
+  pub small : mantissa < 2 ^ 24
+
+-- the parts of a float without its sign below a millimetre
+pub record Tiny (x : Float) : Type 0 where
+  pub mantissa : ℕ
+  pub places : ℕ
+  pub parted : Parted x mantissa places
+  pub below : 1000 * mantissa < 2 ^ places
+
+-- with more places than 1000 times the mantissa has binary digits
+tiny-by : (x : Float) (q k : ℕ) → Parted x q k → 34 ≤ k → Tiny x
+tiny-by x q k p h =
+    let s = p .small in
+    let l : 1000 * q < 2 ^ 34 = omega arith in
+    record { mantissa = q; places = k; parted = p; below = lt-of-lt-of-le l (pow-mono h) }
+
+-- ---- what `mm_above_lowest` cites, of a level x that the format holds, and of the bits e and t of its pattern
 module _ (x : Float) (F : T (fits binary32 x)) (L : inLevel x ≡ true) (e t : ℕ) (E : e ≡ bits (toBits binary32 x) 30 23) (S : t ≡ bits (toBits binary32 x) 22 0) where
   abbrev sign : Bool
   sign = leb (2 ^ 31) (toBits binary32 x)
@@ -92,7 +111,7 @@ module _ (x : Float) (F : T (fits binary32 x)) (L : inLevel x ≡ true) (e t : �
   t-lt : t < 2 ^ 23
   t-lt = omega arith
 
-  pub low-parted : e ≡ 0 → Parted x t 149
+  low-parted : e ≡ 0 → Parted x t 149
   low-parted z =
       let is : x ≡ ofFields binary32 sign 0 t = x-is ∙ ap (λ (i : ℕ). ofFields binary32 sign i t) z in
       record { value = subst (λ (y : Float). Units y t) (sym is) (low-field sign t); small = omega (arith, t-lt) }
@@ -108,3 +127,10 @@ module _ (x : Float) (F : T (fits binary32 x)) (L : inLevel x ≡ true) (e t : �
       let w = parted (natAbs (over x)) (under x) q j (under-pos x) v (150 - e) (omega arith) in
       let same : q ≡ t + 2 ^ 23 = omega arith in
       (omega arith, subst (λ (m : ℕ). Parted x m (150 - e)) same (record { value = w; small = omega (arith, t-lt) }))
+
+  pub tiny : e < 87 → Tiny x
+  tiny h = go e refl
+    where
+      go : (n : ℕ) → e ≡ n → Tiny x
+      go zero z = tiny-by x t 149 (low-parted z) (omega arith)
+      go (suc n) z = tiny-by x (t + 2 ^ 23) (150 - e) (full-parted (λ (o : e ≡ 0). omega arith) .1) (omega arith)

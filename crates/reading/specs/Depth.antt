@@ -1,5 +1,6 @@
 -- What a reading answers: document 01, "Forecast, readings, discount, program", with the numbers and places of "Where a call stops".
 use mathlib.Core.Bool.{Bool, _&&_}
+use Prim.Native.Nat.{ℕ}
 use lib.IntN.{ℤ, pos, _-ℤ_}
 use lib.Signed.{leZ}
 use lib.Ieee.{Float}
@@ -18,8 +19,11 @@ core x =
     (accepted (atLeast0 (mm x))))
 
 -- a pair's depth is "in 0 to 20,000"
+abbrev pub greatestDepth : ℕ
+greatestDepth = 20000
+
 unfoldable pub inDepth : ℤ → Bool
-inDepth z = leZ (pos 0) z && leZ z (pos 20000)
+inDepth z = leZ (pos 0) z && leZ z (pos greatestDepth)
 
 -- a pair "gives surface mm − base mm, in 0 to 20,000, else 17 at place 2. For a pair 16 is tested on both before 17"
 unfoldable pub levels : Float → Float → Answer

@@ -1,9 +1,9 @@
 -- Document 01, "Forecast, readings, discount, program": the exact value of a binary32, its range in metres and its whole millimetres.
 -- The logic's `fin s m e` is the number m * 2 ^ e, negative where s is true, and 2 ^ e is the fraction up e / down e.
-use Prim.Native.Nat.{ℕ, _*_, _^_, _<_}
+use Prim.Native.Nat.{ℕ, _*_, _<_}
 use mathlib.Core.Path.{_≡_}
 use mathlib.Core.Bool.{Bool, true, false, cond, _&&_}
-use lib.IntN.{ℤ, pos, negℤ, sucℤ, natAbs, _*ℤ_}
+use lib.IntN.{ℤ, pos, negℤ, sucℤ, _*ℤ_}
 use lib.Signed.{leZ, shrZ, _≤ℤ_, _<ℤ_}
 use lib.Ieee.{Float, nan, inf, fin, up, down}
 
@@ -29,12 +29,21 @@ abbrev pub between : ℤ → ℤ → Float → Bool
 between low high x = isFinite x && (leZ (low *ℤ pos (under x)) (over x) && leZ (over x) (high *ℤ pos (under x)))
 
 -- "a core lies in 0 to 20 (−0 is 0)"
-unfoldable pub inCore : Float → Bool
-inCore x = between (pos 0) (pos 20) x
+abbrev pub deepestCore : ℕ
+deepestCore = 20
 
--- "a level in −100 to 3,000"
+unfoldable pub inCore : Float → Bool
+inCore x = between (pos 0) (pos deepestCore) x
+
+-- "a level in −100 to 3,000": the lowest is so many metres below zero
+abbrev pub lowestLevel : ℕ
+lowestLevel = 100
+
+abbrev pub highestLevel : ℕ
+highestLevel = 3000
+
 unfoldable pub inLevel : Float → Bool
-inLevel x = between (negℤ (pos 100)) (pos 3000) x
+inLevel x = between (negℤ (pos lowestLevel)) (pos highestLevel) x
 
 -- "its mm is the greatest whole number not above 1,000 times its exact value, also below zero": `shrZ` rounds down
 unfoldable pub mm : Float → ℤ
@@ -54,6 +63,10 @@ pub record EveryReading : Type 0 where
   pub only : (x : Float) (n : ℤ) → isFinite x ≡ true → Floor x n → n ≡ mm x
 
 -- ---- for contracts of private functions alone
+-- the lowest level's millimetres, below zero
+abbrev pub lowestMm : ℕ
+lowestMm = 1000 * lowestLevel
+
 -- x is finite, and low and high are whole numbers
 pub record Ends (x low high : Float) : Type 0 where
   pub finite : isFinite x ≡ true
@@ -61,8 +74,3 @@ pub record Ends (x low high : Float) : Type 0 where
   pub low-whole : under low ≡ 1
   pub high-finite : isFinite high ≡ true
   pub high-whole : under high ≡ 1
-
--- x without its sign is exactly mantissa / 2 ^ places, and the mantissa has at most 24 binary digits
-pub record Parted (x : Float) (mantissa places : ℕ) : Type 0 where
-  pub value : natAbs (over x) * 2 ^ places ≡ mantissa * under x
-  pub small : mantissa < 2 ^ 24

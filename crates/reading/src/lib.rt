@@ -6,10 +6,9 @@ use words::READING_MISSING;
 use words::refuse_amount;
 ghost use mathlib.Core.Path.{_≡_};
 ghost use mathlib.Core.Bool.{true};
-ghost use Prim.Native.Nat.{_/_, _^_};
 ghost use lib.IntN.{pos, _+ℤ_};
 ghost use Rattle.words.specs.Answers.{amount};
-ghost use Rattle.reading.specs.Metres.{isFinite, over, between, inLevel, mm, Ends, Parted};
+ghost use Rattle.reading.specs.Metres.{isFinite, over, between, inLevel, mm, lowestMm, Ends};
 ghost use Rattle.reading.specs.Depth.{core, levels, depth};
 ghost use Rattle.reading.specs.declared.Reading.the-variants.{Missing};
 
@@ -19,11 +18,8 @@ pub enum Reading {
     Missing,
 }
 
-// A float without its sign is exactly mantissa / 2 ^ places.
-struct Parts {
-    mantissa: u64,
-    places: u32,
-}
+const LOWEST: u32 = 100_000; // the lowest level's millimetres, below zero
+const DEEPEST: u32 = 20_000; // the greatest depth between two levels, in mm
 
 // The depth that a reading gives, or why it gives none.
 pub fn depth(reading: Reading) -> Amount
@@ -43,8 +39,8 @@ pub fn missing() -> Amount
     refuse_amount(READING_MISSING, 0)
 }
 
-// The depth of a core. It is a level as well: its millimetres too are those above -100,000, less
-// 100,000.
+// The depth of a core. It is a level as well: its millimetres too are those above the lowest
+// level, less the lowest level's.
 pub fn core(x: f32) -> Amount
     ensures { λ r. ⌜ amount r ≡ core x ⌝ }
 {
@@ -54,7 +50,7 @@ pub fn core(x: f32) -> Amount
     if !in_range(x, 0.0, 20.0) {
         return refuse_amount(OUT_OF_RANGE, 0);
     }
-    Amount::Value(mm_above_lowest(x) - 100_000)
+    Amount::Value(mm_above_lowest(x) - LOWEST)
 }
 
 // The depth between a pair of levels. A number that is not finite is refused before a level that is
@@ -79,7 +75,7 @@ pub fn levels(surface: f32, base: f32) -> Amount
     if s < b {
         return refuse_amount(OUT_OF_RANGE, 2);
     }
-    if 20_000 < s - b {
+    if DEEPEST < s - b {
         return refuse_amount(OUT_OF_RANGE, 2);
     }
     Amount::Value(s - b)
@@ -116,46 +112,24 @@ fn is_level(x: f32) -> bool
     in_range(x, -100.0, 3000.0)
 }
 
-// The millimetres of a level, rounded down, above those of the lowest, -100,000: so no number is
-// below zero here, and a difference of levels is that of these.
+// The millimetres of a level, rounded down, above those of the lowest: so no number is below zero
+// here, and a difference of levels is that of these. A level without its sign is exactly
+// mantissa / 2 ^ places.
 fn mm_above_lowest(x: f32) -> u32
     requires { ⌜ inLevel x ≡ true ⌝ }
-    ensures { λ r. ⌜ pos r ≡ mm x +ℤ pos 100000 ⌝ }
-{
-    let p = take_apart(x);
-    let n = 1000 * p.mantissa;
-    if x < 0.0 {
-        return 99_999 - (shifted(n - 1, p.places) as u32);
-    }
-    100_000 + (shifted(n, p.places) as u32)
-}
-
-fn take_apart(x: f32) -> Parts
-    requires { ⌜ inLevel x ≡ true ⌝ }
-    ensures { λ r. ⌜ Parted x (r .mantissa) (r .places) ⌝ }
+    ensures { λ r. ⌜ pos r ≡ mm x +ℤ pos lowestMm ⌝ }
 {
     let pattern = f32::to_bits(x);
     let exponent = words::bits(pattern, 30, 23);
-    let fraction = words::bits(pattern, 22, 0);
-    // a subnormal: no leading digit, and the exponent of field 1
-    if exponent == 0 {
-        return Parts {
-            mantissa: fraction as u64,
-            places: 149,
-        };
+    // below a millimetre by far, subnormals too: a shift by 64 or more is not defined
+    if exponent < 87 {
+        return if x < 0.0 { LOWEST - 1 } else { LOWEST };
     }
-    Parts {
-        mantissa: (fraction + 0x80_0000) as u64,
-        places: 150 - exponent,
+    let mantissa = words::bits(pattern, 22, 0) + 0x80_0000;
+    let places = 150 - exponent;
+    let n = 1000 * mantissa as u64;
+    if x < 0.0 {
+        return LOWEST - 1 - (((n - 1) >> places) as u32);
     }
-}
-
-// n / 2 ^ k, rounded down, for any k: a shift by 64 or more is not defined.
-fn shifted(n: u64, k: u32) -> u64
-    ensures { λ r. ⌜ r ≡ n / 2 ^ k ⌝ }
-{
-    if k < 64 {
-        return n >> k;
-    }
-    0
+    LOWEST + ((n >> places) as u32)
 }
