@@ -14,7 +14,7 @@ use Rattle.words.proofs.Signed.{atLeast0-less, diff-is, diff-same}
 use Rattle.words.proofs.Answers.{answers}
 use Rattle.reading.specs.Metres.{over, under, inCore, mm, lowestMm}
 use Rattle.reading.specs.Depth.{greatestDepth, inDepth}
-use Rattle.reading.proofs.Order.{core-inside, core-level}
+use Rattle.reading.proofs.Order.{core-inside, core-finite, level-finite, core-level}
 
 -- ---- a core's millimetres are not below zero
 pub core-enough : (x : Float) (r : ℕ) → inCore x ≡ true → pos r ≡ mm x +ℤ pos lowestMm → lowestMm ≤ r
@@ -60,4 +60,4 @@ module _ (n : ℕ) (u : ℤ) (s : ℕ) (p : pos s ≡ u +ℤ pos n) where
     pair-depth h k = bounded h ∙ le-leb (s - b) greatestDepth k
 
 -- what the answers of this crate are found from
-pub ruleset depths = (answers, core-level, core-enough, core-value, pair-value, base-above, pair-deep, pair-depth)
+pub ruleset depths = (answers, core-finite, level-finite, core-level, core-enough, core-value, pair-value, base-above, pair-deep, pair-depth)

@@ -3,14 +3,14 @@ use mathlib.Core.Path.{_≡_, refl, sym, ap, ap₂, _∙_}
 use Prim.Native.Nat.{ℕ, zero, suc, _+_, _*_, _≤_, _<_}
 use native.Mathlib.Nat.{mul-one, zero-mul, zero-add}
 use native.Mathlib.Omega.{arith}
-use mathlib.Core.Bool.{Bool, true, false, not, cond, _&&_, false≢true}
-use lib.Dec.{leb, ltb, leb·suc-zero, leb·suc-suc, leb·zero}
+use mathlib.Core.Bool.{Bool, true, false, not, cond, _&&_, _||_, and-false, false≢true}
+use lib.Dec.{leb, ltb, eqb, leb·suc-zero, leb·suc-suc, leb·zero, eqb·zero-suc, eqb·suc-zero}
 use lib.IntN.{ℤ, pos, negsuc, negℤ, _*ℤ_}
 use lib.Signed.{leZ}
-use lib.Ieee.{Float, nan, inf, fin, up, down, lt, below}
+use lib.Ieee.{Float, nan, inf, fin, up, down, lt, le, below, level}
 use lib.Ieee.Fits.{down-pos}
 use lib.Pow.{pow-pos}
-use borrow.Author.Tests.{lt-ltb, ltb-true, ltb-false, le-leb, lt-leb, leb-true}
+use borrow.Author.Tests.{lt-ltb, ltb-true, ltb-false, le-leb, lt-leb, leb-true, eq-eqb, ne-eqb}
 use Rattle.words.proofs.Answers.{and-left, and-right}
 use Rattle.reading.specs.Metres.{isFinite, over, under, between, deepestCore, lowestLevel, highestLevel, inCore, inLevel, Ends}
 
@@ -68,6 +68,35 @@ not-lt (fin s m e) (inf t) f g = absurd (false≢true g)
 not-lt (fin s m e) (fin t n d) f g =
     not-below s t (m * up e * down d) (n * up d * down e) ∙ sym (ap₂ leZ (times t (n * up d) (down e)) (times s (m * up e) (down d)))
 
+-- a ≤ b is not b < a, with a flag for a ≡ b
+up-to : (a b : ℕ) (same : Bool) → (a ≡ b → same ≡ true) → ((a ≡ b → ⊥) → same ≡ false) → (ltb a b || same) ≡ not (ltb b a)
+up-to a b same equal other = go (ltb a b) (ltb b a) refl refl
+  where
+    go : (p q : Bool) → ltb a b ≡ p → ltb b a ≡ q → (p || same) ≡ not q
+    go true true e g = let h = ltb-true a b e in let k = ltb-true b a g in absurd (omega arith)
+    go true false e g = refl
+    go false true e g = let k = ltb-true b a g in other (λ (z : a ≡ b). omega arith)
+    go false false e g = let h = ltb-false a b e in let k = ltb-false b a g in equal (omega arith)
+
+not-above : (s t : Bool) (a b : ℕ) → (below s a t b || level s a t b) ≡ not (below t b s a)
+not-above false false a b = up-to a b (level false a false b) (λ e. rw (eq-eqb a b e)) (λ n. rw (ne-eqb a b n))
+not-above false true zero zero = refl
+not-above false true zero (suc b) = rw (eqb·zero-suc b, lt-ltb 0 (suc b + 0) (omega arith))
+not-above false true (suc a) zero = rw (eqb·suc-zero a, lt-ltb 0 (0 + suc a) (omega arith))
+not-above false true (suc a) (suc b) = rw (eqb·suc-zero a, and-false (eqb (suc a) (suc b)), lt-ltb 0 (suc b + suc a) (omega arith))
+not-above true false zero zero = refl
+not-above true false zero (suc b) = rw (lt-ltb 0 (0 + suc b) (omega arith))
+not-above true false (suc a) b = rw (lt-ltb 0 (suc a + b) (omega arith))
+not-above true true a b = up-to b a (level true a true b) (λ e. rw (eq-eqb a b (sym e))) (λ n. rw (ne-eqb a b (λ (e : a ≡ b). n (sym e))))
+
+le-not-lt : (x y : Float) → isFinite x ≡ true → isFinite y ≡ true → le x y ≡ not (lt y x)
+unfolding le lt
+le-not-lt nan y f g = absurd (false≢true f)
+le-not-lt (inf s) y f g = absurd (false≢true f)
+le-not-lt (fin s m e) nan f g = absurd (false≢true g)
+le-not-lt (fin s m e) (inf t) f g = absurd (false≢true g)
+le-not-lt (fin s m e) (fin t n d) f g = not-above s t (m * up e * down d) (n * up d * down e)
+
 -- against a whole number y
 module _ (x y : Float) (f : isFinite x ≡ true) (g : isFinite y ≡ true) (w : under y ≡ 1) where
   x-times : over x *ℤ pos (under y) ≡ over x
@@ -76,16 +105,27 @@ module _ (x y : Float) (f : isFinite x ≡ true) (g : isFinite y ≡ true) (w : 
   pub not-lt-whole : not (lt x y) ≡ leZ (over y *ℤ pos (under x)) (over x)
   not-lt-whole = not-lt x y f g ∙ ap (leZ (over y *ℤ pos (under x))) x-times
 
-  not-whole-lt : not (lt y x) ≡ leZ (over x) (over y *ℤ pos (under x))
-  not-whole-lt = not-lt y x g f ∙ ap (λ (i : ℤ). leZ i (over y *ℤ pos (under x))) x-times
+  whole-le : le y x ≡ leZ (over y *ℤ pos (under x)) (over x)
+  whole-le = le-not-lt y x g f ∙ not-lt-whole
 
--- the two tests of `in_range`
-pub range-is : (x low high : Float) → Ends x low high → between (over low) (over high) x ≡ (not (lt x low) && not (lt high x))
-range-is x low high e =
-    let f = e .finite in
-    let least = not-lt-whole x low f (e .low-finite) (e .low-whole) in
-    let most = not-whole-lt x high f (e .high-finite) (e .high-whole) in
-    rw (f, least, most)
+  le-whole : le x y ≡ leZ (over x) (over y *ℤ pos (under x))
+  le-whole = le-not-lt x y f g ∙ not-lt y x g f ∙ ap (λ (i : ℤ). leZ i (over y *ℤ pos (under x))) x-times
+
+-- the two tests of `in_range`: no NaN and no infinity passes both
+pub range-is : (x low high : Float) → Ends low high → between (over low) (over high) x ≡ (le low x && le x high)
+unfolding le
+range-is x low high e = go x low high (e .low-finite) (e .high-finite) (e .low-whole) (e .high-whole)
+  where
+    go : (x low high : Float) → isFinite low ≡ true → isFinite high ≡ true → under low ≡ 1 → under high ≡ 1 → between (over low) (over high) x ≡ (le low x && le x high)
+    go x nan high f g v w = absurd (false≢true f)
+    go x (inf s) high f g v w = absurd (false≢true f)
+    go x (fin s m e) nan f g v w = absurd (false≢true g)
+    go x (fin s m e) (inf t) f g v w = absurd (false≢true g)
+    go nan (fin s m e) (fin t n d) f g v w = refl
+    go (inf true) (fin s m e) (fin t n d) f g v w = refl
+    go (inf false) (fin s m e) (fin t n d) f g v w = refl
+    go (fin r k c) (fin s m e) (fin t n d) f g v w =
+        ap₂ _&&_ (sym (whole-le (fin r k c) (fin s m e) refl refl v)) (sym (le-whole (fin r k c) (fin t n d) refl refl w))
 
 -- ---- what a range says
 pub record Inside (low high : ℤ) (x : Float) : Type 0 where
@@ -107,6 +147,12 @@ core-inside x h = inside (pos 0) (pos deepestCore) x h
 pub level-inside : (x : Float) → inLevel x ≡ true → Inside (negℤ (pos lowestLevel)) (pos highestLevel) x
 unfolding inLevel
 level-inside x h = inside (negℤ (pos lowestLevel)) (pos highestLevel) x h
+
+pub core-finite : (x : Float) → inCore x ≡ true → isFinite x ≡ true
+core-finite x h = core-inside x h .finite
+
+pub level-finite : (x : Float) → inLevel x ≡ true → isFinite x ≡ true
+level-finite x h = level-inside x h .finite
 
 -- the integer over a denominator d
 module _ (d : ℕ) where

@@ -67,9 +67,8 @@ pub record EveryReading : Type 0 where
 abbrev pub lowestMm : ℕ
 lowestMm = 1000 * lowestLevel
 
--- x is finite, and low and high are whole numbers
-pub record Ends (x low high : Float) : Type 0 where
-  pub finite : isFinite x ≡ true
+-- low and high are whole numbers
+pub record Ends (low high : Float) : Type 0 where
   pub low-finite : isFinite low ≡ true
   pub low-whole : under low ≡ 1
   pub high-finite : isFinite high ≡ true

@@ -5,7 +5,7 @@ use words::OUT_OF_RANGE;
 use words::READING_MISSING;
 use words::refuse_amount;
 ghost use mathlib.Core.Path.{_≡_};
-ghost use mathlib.Core.Bool.{true};
+ghost use mathlib.Core.Bool.{true, false};
 ghost use lib.IntN.{pos, _+ℤ_};
 ghost use Rattle.words.specs.Answers.{amount};
 ghost use Rattle.reading.specs.Metres.{isFinite, over, between, inLevel, mm, lowestMm, Ends};
@@ -18,7 +18,15 @@ pub enum Reading {
     Missing,
 }
 
+// The ends of the ranges, in metres.
+const DEEPEST_CORE: f32 = 20.0;
+
+const LOWEST_LEVEL: f32 = -100.0;
+
+const HIGHEST_LEVEL: f32 = 3000.0;
+
 const LOWEST: u32 = 100_000; // the lowest level's millimetres, below zero
+
 const DEEPEST: u32 = 20_000; // the greatest depth between two levels, in mm
 
 // The depth that a reading gives, or why it gives none.
@@ -40,35 +48,28 @@ pub fn missing() -> Amount
 }
 
 // The depth of a core. It is a level as well: its millimetres too are those above the lowest
-// level, less the lowest level's.
+// level, less the lowest level's. What lies in a range is finite, so the range is tested first.
 pub fn core(x: f32) -> Amount
     ensures { λ r. ⌜ amount r ≡ core x ⌝ }
 {
+    if in_range(x, 0.0, DEEPEST_CORE) {
+        return Amount::Value(mm_above_lowest(x) - LOWEST);
+    }
     if !finite(x) {
         return refuse_amount(NOT_FINITE, 0);
     }
-    if !in_range(x, 0.0, 20.0) {
-        return refuse_amount(OUT_OF_RANGE, 0);
-    }
-    Amount::Value(mm_above_lowest(x) - LOWEST)
+    refuse_amount(OUT_OF_RANGE, 0)
 }
 
-// The depth between a pair of levels. A number that is not finite is refused before a level that is
-// out of range, whichever it is.
+// The depth between a pair of levels.
 pub fn levels(surface: f32, base: f32) -> Amount
     ensures { λ r. ⌜ amount r ≡ levels surface base ⌝ }
 {
-    if !finite(surface) {
-        return refuse_amount(NOT_FINITE, 0);
-    }
-    if !finite(base) {
-        return refuse_amount(NOT_FINITE, 1);
-    }
     if !is_level(surface) {
-        return refuse_amount(OUT_OF_RANGE, 0);
+        return refuse_pair(surface, base);
     }
     if !is_level(base) {
-        return refuse_amount(OUT_OF_RANGE, 1);
+        return refuse_pair(surface, base);
     }
     let s = mm_above_lowest(surface);
     let b = mm_above_lowest(base);
@@ -81,6 +82,24 @@ pub fn levels(surface: f32, base: f32) -> Amount
     Amount::Value(s - b)
 }
 
+// The answer to a pair of which one at least is not a level. A number that is not finite is refused
+// before a level that is out of range, whichever it is.
+fn refuse_pair(surface: f32, base: f32) -> Amount
+    requires { ⌜ (inLevel surface ≡ true → inLevel base ≡ false) ⌝ }
+    ensures { λ r. ⌜ amount r ≡ levels surface base ⌝ }
+{
+    if !finite(surface) {
+        return refuse_amount(NOT_FINITE, 0);
+    }
+    if !finite(base) {
+        return refuse_amount(NOT_FINITE, 1);
+    }
+    if !is_level(surface) {
+        return refuse_amount(OUT_OF_RANGE, 0);
+    }
+    refuse_amount(OUT_OF_RANGE, 1)
+}
+
 // Neither a NaN nor an infinity: strictly between the two infinities.
 fn finite(x: f32) -> bool
     ensures { λ r. ⌜ r ≡ isFinite x ⌝ }
@@ -91,25 +110,22 @@ fn finite(x: f32) -> bool
     false
 }
 
-// Whether x lies in low to high, whole numbers of metres, ends included; -0 is 0.
+// Whether x lies in low to high, whole numbers of metres, ends included; -0 is 0, and no NaN lies
+// there.
 fn in_range(x: f32, low: f32, high: f32) -> bool
-    requires { ⌜ Ends x low high ⌝ }
+    requires { ⌜ Ends low high ⌝ }
     ensures { λ r. ⌜ r ≡ between (over low) (over high) x ⌝ }
 {
-    if x < low {
-        return false;
+    if low <= x {
+        return x <= high;
     }
-    if high < x {
-        return false;
-    }
-    true
+    false
 }
 
 fn is_level(x: f32) -> bool
-    requires { ⌜ isFinite x ≡ true ⌝ }
     ensures { λ r. ⌜ r ≡ inLevel x ⌝ }
 {
-    in_range(x, -100.0, 3000.0)
+    in_range(x, LOWEST_LEVEL, HIGHEST_LEVEL)
 }
 
 // The millimetres of a level, rounded down, above those of the lowest: so no number is below zero

@@ -7,10 +7,7 @@ returns : tie.Need-returns
 returns c = rw (range-is _ _ _ (c .before .pre), c .if1 .taken)
 
 returns-2 : tie.Need-returns-2
-returns-2 c = rw (range-is _ _ _ (c .before .before .pre), c .before .if1 .left, c .if2 .taken)
-
-returns-3 : tie.Need-returns-3
-returns-3 c = rw (range-is _ _ _ (c .before .before .pre), c .before .if1 .left, c .if2 .left)
+returns-2 c = rw (range-is _ _ _ (c .before .pre), c .if1 .left)
 
 pub in-range-spec : {M : Type 1} → statement M
-in-range-spec = tie.close (tie.spec returns returns-2 returns-3)
+in-range-spec = tie.close (tie.spec returns returns-2)

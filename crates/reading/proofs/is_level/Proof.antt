@@ -7,7 +7,7 @@ use Rattle.reading.proofs.is_level.Tie as tie
 
 in-range-requires : tie.Need-in-range-requires
 unfolding ofBits neg
-in-range-requires c κs = record { finite = c .pre; low-finite = refl; low-whole = refl; high-finite = refl; high-whole = refl }
+in-range-requires c κs = record { low-finite = refl; low-whole = refl; high-finite = refl; high-whole = refl }
 
 returns : tie.Need-returns
 unfolding inLevel ofBits neg
