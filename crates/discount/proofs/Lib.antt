@@ -2,4 +2,6 @@
 pub mod Greatest
 pub mod Meaning
 pub mod Bounds
-pub mod Halving
+pub mod Newton
+pub mod Rounded
+pub mod Pools

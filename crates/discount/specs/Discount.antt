@@ -1,7 +1,7 @@
 -- Document 01's paragraph "Discount takes four lists", in its own letters Q and D.
 use Prim.Native.Nat.{ℕ, zero, suc, _+_, _-_, _*_, _<_, _≤_}
 use mathlib.Core.Path.{_≡_}
-use mathlib.Core.Bool.{Bool, true, cond, _&&_}
+use mathlib.Core.Bool.{Bool, true, false, cond, _&&_}
 use mathlib.Core.List.{List}
 use lib.Dec.{leb, eqb}
 use lib.ListN.{length}
@@ -58,12 +58,18 @@ pub record EveryDiscount : Type 0 where
 -- ---- the call
 
 -- refusal 19: "list lengths unequal or not 1–5"
+abbrev pub mostPools : ℕ
+mostPools = 5
+
 unfoldable pub lengthsRight : ℕ → ℕ → ℕ → ℕ → Bool
-lengthsRight a b c d = eqb a b && eqb a c && eqb a d && within 1 5 a
+lengthsRight a b c d = eqb a b && eqb a c && eqb a d && within 1 mostPools a
 
 -- refusal 20: "a value above 20,000"
+abbrev pub largestValue : ℕ
+largestValue = 20000
+
 abbrev pub valuesRight : List ℕ → Bool
-valuesRight values = allAtMost 20000 values
+valuesRight values = allAtMost largestValue values
 
 -- what the call answers for any four lists; lists 0 to 3 are tested in turn
 unfoldable pub discount : List ℕ → List ℕ → List ℕ → List ℕ → Answer
@@ -79,5 +85,21 @@ discount firstWidths secondWidths firstStocks secondStocks =
 
 -- a list that is not refused
 pub record Bounded (values : List ℕ) : Type 0 where
-  pub few : length values ≤ 5
+  pub few : length values ≤ mostPools
   pub low : valuesRight values ≡ true
+
+-- what the sum of such a list, and of its squares, is at most
+abbrev pub mostStock : ℕ
+mostStock = mostPools * largestValue
+
+abbrev pub mostSquares : ℕ
+mostSquares = mostPools * square largestValue
+
+-- the values of one pool in the four lists
+unfoldable pub poolValid : ℕ → ℕ → ℕ → ℕ → Bool
+poolValid a b c d = leb a largestValue && leb b largestValue && leb c largestValue && leb d largestValue
+
+-- four lists with the sums of the last two where none is refused; where one is, it is the last unless one before it is
+pub record Added (a b c d : List ℕ) (valid : Bool) (first second : ℕ) : Type 0 where
+  pub kept : valid ≡ true → Bounded a × Bounded b × Bounded c × Bounded d × (first ≡ sum c) × (second ≡ sum d)
+  pub lost : valid ≡ false → valuesRight a ≡ true → valuesRight b ≡ true → valuesRight c ≡ true → valuesRight d ≡ false

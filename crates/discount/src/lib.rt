@@ -5,18 +5,36 @@ use words::LIST_LENGTHS;
 use words::VALUE_TOO_LARGE;
 use words::refuse_amount;
 ghost use mathlib.Core.Path.{_≡_};
-ghost use Prim.Native.Nat.{_*_, _<_, _≤_};
+ghost use mathlib.Core.Bool.{true, false};
+ghost use Prim.Native.Nat.{_+_, _*_, _/_, _<_, _≤_};
+ghost use lib.ListN.{length};
 ghost use Rattle.words.specs.Answers.{amount};
-ghost use Rattle.sums.specs.Sums.{weighted, sum};
-ghost use Rattle.discount.specs.Discount.{discount, lengthsRight, squares, distance, factor, roundedDown, Bounded};
+ghost use Rattle.sums.specs.Sums.{weighted};
+ghost use Rattle.discount.specs.Discount.{discount, lengthsRight, valuesRight, poolValid, distance, factor, roundedDown, mostStock, mostSquares, Bounded, Added};
+
+const MOST_POOLS: usize = 5;
 
 const LARGEST: u32 = 20_000; // of a value, in tenths of t CO2e per ha
+
+// The sums of two lists of stocks, where no value of the four lists is too large.
+struct Stocks {
+    valid: bool,
+    first: u64,
+    second: u64,
+}
 
 // Whether four lists of these lengths have one value for each of one to five carbon pools.
 fn lengths_right(a: usize, b: usize, c: usize, d: usize) -> bool
     ensures { λ r. ⌜ r ≡ lengthsRight a b c d ⌝ }
 {
-    (a == b) & (a == c) & (a == d) & ((1 <= a) & (a <= 5))
+    (a == b) & (a == c) & (a == d) & ((1 <= a) & (a <= MOST_POOLS))
+}
+
+// Whether the values of one carbon pool in the four lists are not too large.
+fn pool_valid(a: u32, b: u32, c: u32, d: u32) -> bool
+    ensures { λ r. ⌜ r ≡ poolValid a b c d ⌝ }
+{
+    (a <= LARGEST) & (b <= LARGEST) & (c <= LARGEST) & (d <= LARGEST)
 }
 
 fn distance(x: u64, y: u64) -> u64
@@ -28,43 +46,78 @@ fn distance(x: u64, y: u64) -> u64
 // The sum of a list's squares.
 fn squared(widths: &[u32]) -> u64
     requires { ⌜ Bounded (now widths) ⌝ }
-    ensures { λ r. ⌜ (r ≡ weighted (now (widths .entry)) (now (widths .entry))) × (r ≤ 2000000000) ⌝ }
+    ensures { λ r. ⌜ (r ≡ weighted (now (widths .entry)) (now (widths .entry))) × (r ≤ mostSquares) ⌝ }
 {
     sums::weighted_sum(widths, widths)
 }
 
-// The sum of a list, which has at most as many values as there are ones.
-fn total(stocks: &[u32]) -> u64
-    requires { ⌜ Bounded (now stocks) ⌝ }
-    ensures { λ r. ⌜ (r ≡ sum (now (stocks .entry))) × (r ≤ 100000) ⌝ }
+// Adds up the stocks of both classes, and tests every value of the four lists, pool by pool.
+fn stock_sums(
+    first_widths: &[u32],
+    second_widths: &[u32],
+    first_stocks: &[u32],
+    second_stocks: &[u32],
+) -> Stocks
+    requires { ⌜ lengthsRight (length (now «first_widths»)) (length (now «second_widths»)) (length (now «first_stocks»)) (length (now «second_stocks»)) ≡ true ⌝ }
+    ensures { λ r. ⌜ Added (now («first_widths» .entry)) (now («second_widths» .entry)) (now («first_stocks» .entry)) (now («second_stocks» .entry)) (r .valid) (r .first) (r .second) ⌝ }
 {
-    let ones = [1u32; 5];
-    sums::weighted_sum(&ones, stocks)
+    let mut first: u64 = 0;
+    let mut second: u64 = 0;
+    let mut i: usize = 0;
+    while i < first_widths.len() {
+        let a = first_stocks[i];
+        let b = second_stocks[i];
+        if !pool_valid(first_widths[i], second_widths[i], a, b) {
+            return Stocks {
+                valid: false,
+                first,
+                second,
+            };
+        }
+        first += a as u64;
+        second += b as u64;
+        i += 1;
+    }
+    Stocks {
+        valid: true,
+        first,
+        second,
+    }
 }
 
-// Halves the range from `low`, which is not above 10,000 × (1 − √q / d), to `high`, which is. The
-// squares of both sides are compared, so that no root is taken.
+// One step of Newton's towards the root of n, from any r above 0.
+fn nearer(n: u32, r: u32) -> u32
+    requires { ⌜ (n ≤ 100000000) × (0 < r) × (r ≤ 100000000) ⌝ }
+    ensures { λ s. ⌜ s ≡ (r + n / r) / 2 ⌝ }
+{
+    (r + n / r) / 2
+}
+
+// The root of n, rounded down. Three steps from a number in its middle are enough for all but a few
+// n from 2,250,000 up, which is what a discount asks for.
+fn root(n: u32) -> u32
+    requires { ⌜ n < 100000000 ⌝ }
+    ensures { λ r. ⌜ (r * r ≤ n) × (n < (r + 1) * (r + 1)) ⌝ }
+{
+    let middle = if n < 16_000_000 { 2_500 } else { 6_500 };
+    let mut r = nearer(n, nearer(n, nearer(n, middle)));
+    while (n as u64) < r as u64 * r as u64 {
+        r = nearer(n, r);
+    }
+    r
+}
+
+// 10,000 × √q / d rounded up is one more than the root of what is just below its square, rounded
+// down: the square's whole part, and one less where the square is whole.
 fn rounded_down(q: u64, d: u64) -> u32
-    requires { ⌜ (d ≤ 100000) × (0 < q) × (q < d * d) ⌝ }
+    requires { ⌜ (d ≤ mostStock) × (0 < q) × (q < d * d) ⌝ }
     ensures { λ r. ⌜ r ≡ roundedDown q d ⌝ }
 {
-    let target = 100_000_000 * q;
-    let mut low: u32 = 0;
-    let mut high: u32 = 10_000;
-    while low + 1 < high {
-        let middle = (low + high) / 2;
-        let root = (10_000 - middle) as u64 * d;
-        if target <= root * root {
-            low = middle;
-        } else {
-            high = middle;
-        }
-    }
-    low // the greatest that is not above
+    9_999 - root(((100_000_000 * q - 1) / (d * d)) as u32)
 }
 
 fn factor(q: u64, d: u64) -> u32
-    requires { ⌜ (q ≤ 4000000000) × (d ≤ 100000) ⌝ }
+    requires { ⌜ (q ≤ 2 * mostSquares) × (d ≤ mostStock) ⌝ }
     ensures { λ r. ⌜ r ≡ factor q d ⌝ }
 {
     if d == 0 {
@@ -79,19 +132,26 @@ fn factor(q: u64, d: u64) -> u32
     rounded_down(q, d)
 }
 
-// The discount of four lists that are not refused.
-fn factor_of(
+// The answer to four lists of which one at least has a value that is too large: the first such list.
+fn refuse_value(
     first_widths: &[u32],
     second_widths: &[u32],
     first_stocks: &[u32],
     second_stocks: &[u32],
-) -> u32
-    requires { ⌜ Bounded (now «first_widths») × Bounded (now «second_widths») × Bounded (now «first_stocks») × Bounded (now «second_stocks») ⌝ }
-    ensures { λ r. ⌜ r ≡ factor (squares (now («first_widths» .entry)) (now («second_widths» .entry))) (distance (sum (now («first_stocks» .entry))) (sum (now («second_stocks» .entry)))) ⌝ }
+) -> Amount
+    requires { ⌜ (lengthsRight (length (now «first_widths»)) (length (now «second_widths»)) (length (now «first_stocks»)) (length (now «second_stocks»)) ≡ true) × (valuesRight (now «first_widths») ≡ true → valuesRight (now «second_widths») ≡ true → valuesRight (now «first_stocks») ≡ true → valuesRight (now «second_stocks») ≡ false) ⌝ }
+    ensures { λ r. ⌜ amount r ≡ discount (now («first_widths» .entry)) (now («second_widths» .entry)) (now («first_stocks» .entry)) (now («second_stocks» .entry)) ⌝ }
 {
-    let q = squared(first_widths) + squared(second_widths);
-    let d = distance(total(first_stocks), total(second_stocks));
-    factor(q, d)
+    if !sums::all_at_most(LARGEST, first_widths) {
+        return refuse_amount(VALUE_TOO_LARGE, 0);
+    }
+    if !sums::all_at_most(LARGEST, second_widths) {
+        return refuse_amount(VALUE_TOO_LARGE, 1);
+    }
+    if !sums::all_at_most(LARGEST, first_stocks) {
+        return refuse_amount(VALUE_TOO_LARGE, 2);
+    }
+    refuse_amount(VALUE_TOO_LARGE, 3)
 }
 
 // The discount of two classes in ten-thousandths, or why the lists are refused and which: each list
@@ -112,17 +172,11 @@ pub fn discount(
     ) {
         return refuse_amount(LIST_LENGTHS, 0);
     }
-    if !sums::all_at_most(LARGEST, first_widths) {
-        return refuse_amount(VALUE_TOO_LARGE, 0);
+    let stocks = stock_sums(first_widths, second_widths, first_stocks, second_stocks);
+    if !stocks.valid {
+        return refuse_value(first_widths, second_widths, first_stocks, second_stocks);
     }
-    if !sums::all_at_most(LARGEST, second_widths) {
-        return refuse_amount(VALUE_TOO_LARGE, 1);
-    }
-    if !sums::all_at_most(LARGEST, first_stocks) {
-        return refuse_amount(VALUE_TOO_LARGE, 2);
-    }
-    if !sums::all_at_most(LARGEST, second_stocks) {
-        return refuse_amount(VALUE_TOO_LARGE, 3);
-    }
-    Amount::Value(factor_of(first_widths, second_widths, first_stocks, second_stocks))
+    let q = squared(first_widths) + squared(second_widths);
+    let d = distance(stocks.first, stocks.second);
+    Amount::Value(factor(q, d))
 }

@@ -1,25 +1,31 @@
 -- `discount::discount` meets its contract: each return's answer follows from the tests before it. Assumes nothing.
-use mathlib.Core.Path.{ap}
+use mathlib.Core.Path.{_≡_, ap, ap₂, _∙_}
+use Prim.Native.Nat.{_+_}
+use native.Mathlib.Omega.{arith}
+use borrow.Author.Tests.{not-true, not-false}
 use Rattle.words.specs.Answers.{accepted}
-use Rattle.words.proofs.Answers.{said-yes, answers}
-use Rattle.discount.specs.Discount.{discount}
-use Rattle.discount.proofs.Bounds.{bounded}
+use Rattle.words.proofs.Answers.{said-yes, need-next, answers}
+use Rattle.sums.specs.Sums.{sum}
+use Rattle.discount.specs.Discount.{distance, factor, discount, Bounded}
+use Rattle.discount.proofs.Bounds.{distance-le}
 use Rattle.discount.proofs.discount.Statement.{statement}
 use Rattle.discount.proofs.discount.Tie as tie
 
--- the five tests have passed
-factor-of-requires : tie.Need-factor-of-requires
-factor-of-requires c κs =
-    let c₄ = c .before .before in
-    let c₃ = c₄ .before .before in
-    let c₂ = c₃ .before .before in
-    let c₁ = c₂ .before .before in
-    bounded
-    (said-yes _ _ (c₁ .before .lengths-right .ensures) (c₁ .if1 .left))
-    (said-yes _ _ (c₂ .before .all-at-most .ensures) (c₂ .if2 .left))
-    (said-yes _ _ (c₃ .before .all-at-most2 .ensures) (c₃ .if3 .left))
-    (said-yes _ _ (c₄ .before .all-at-most3 .ensures) (c₄ .if4 .left))
-    (said-yes _ _ (c .before .all-at-most4 .ensures) (c .if5 .left))
+-- no list is refused, and the sums are those of the stocks
+kept : (c : tie.Else2) →
+    let a = c .before .before .before .before .before .before .before .before .before .args in
+    let r = c .before .before .stock-sums .result in
+    Bounded (a .first-widths .now) × Bounded (a .second-widths .now) × Bounded (a .first-stocks .now) × Bounded (a .second-stocks .now)
+    × (r .first ≡ sum (a .first-stocks .now)) × (r .second ≡ sum (a .second-stocks .now))
+kept c = c .before .before .stock-sums .ensures .kept (not-false _ (c .if2 .left))
+
+-- D, by the sums
+apart : (c : tie.After-distance) →
+    let a = c .before .before .before .before .before .before .before .before .before .before .before .before .args in
+    c .distance .result ≡ distance (sum (a .first-stocks .now)) (sum (a .second-stocks .now))
+apart c =
+    let k = kept (c .before .before .before) in
+    c .distance .ensures ∙ ap₂ distance (k .4) (k .5)
 
 pub discount-spec : {M : Type 1} → statement M
 unfolding discount
@@ -29,17 +35,28 @@ discount-spec =
     (λ c κs. search answers)
     (λ c κs. search answers)
     (λ c. search answers depth 8 fits 9000)
+    (λ c κs. said-yes _ _ (c .before .lengths-right .ensures) (c .if1 .left))
+    (λ c κs.
+    let e = c .before .before .before in
+    (said-yes _ _ (e .before .lengths-right .ensures) (e .if1 .left), c .before .before .stock-sums .ensures .lost (not-true _ (c .if2 .taken))))
+    (λ c. search answers)
+    (λ c κs. kept c .0)
+    (λ c κs. kept (c .before) .1)
+    (λ c. let q = c .before .squared .ensures .1 in let p = c .squared2 .ensures .1 in omega arith)
     (λ c κs. search answers)
-    (λ c κs. search answers)
-    (λ c. search answers depth 8 fits 9000)
-    (λ c κs. search answers)
-    (λ c κs. search answers)
-    (λ c. search answers depth 8 fits 9000)
-    (λ c κs. search answers)
-    (λ c κs. search answers)
-    (λ c. search answers depth 8 fits 9000)
-    (λ c κs. search answers)
-    (λ c κs. search answers)
-    (λ c. search answers depth 8 fits 9000)
-    factor-of-requires
-    (λ c. let value = ap accepted (c .factor-of .ensures) in search answers depth 8 fits 9000))
+    (λ c κs.
+    let k = kept (c .before .before .before) in
+    let q = c .before .before .squared .ensures .1 in
+    let p = c .before .squared2 .ensures .1 in
+    (omega arith, omega (arith, apart c, distance-le _ _ (k .2) (k .3))))
+    (λ c.
+    let d = c .before in
+    let e = d .before .before .before in
+    let k = kept e in
+    let l = e .before .before .before in
+    need-next _ _ _ _ _ (said-yes _ _ (l .before .lengths-right .ensures) (l .if1 .left))
+    (need-next _ _ _ _ _ (k .0 .low)
+    (need-next _ _ _ _ _ (k .1 .low)
+    (need-next _ _ _ _ _ (k .2 .low)
+    (need-next _ _ _ _ _ (k .3 .low)
+    (ap accepted (c .factor .ensures ∙ ap₂ factor (ap₂ _+_ (d .before .before .squared .ensures .0) (d .before .squared2 .ensures .0)) (apart d)))))))))
