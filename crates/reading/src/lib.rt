@@ -29,6 +29,8 @@ const LOWEST: u32 = 100_000; // the lowest level's millimetres, below zero
 
 const DEEPEST: u32 = 20_000; // the greatest depth between two levels, in mm
 
+const PAIR: usize = 2; // the place of a depth between two levels
+
 // The depth that a reading gives, or why it gives none.
 pub fn depth(reading: Reading) -> Amount
     ensures { λ r. ⌜ amount r ≡ depth reading ⌝ }
@@ -74,10 +76,10 @@ pub fn levels(surface: f32, base: f32) -> Amount
     let s = mm_above_lowest(surface);
     let b = mm_above_lowest(base);
     if s < b {
-        return refuse_amount(OUT_OF_RANGE, 2);
+        return refuse_amount(OUT_OF_RANGE, PAIR);
     }
     if DEEPEST < s - b {
-        return refuse_amount(OUT_OF_RANGE, 2);
+        return refuse_amount(OUT_OF_RANGE, PAIR);
     }
     Amount::Value(s - b)
 }

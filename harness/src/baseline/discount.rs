@@ -49,7 +49,7 @@ fn ten_thousandths(squares: u64, distance: u64) -> u32 {
     if squares >= distance * distance {
         return 0;
     }
-    // 10,000 × √Q / D rounded up: the root of 10^8 × Q rounded up, over D, rounded up.
-    let root = (100_000_000 * squares - 1).isqrt() + 1;
-    10_000 - root.div_ceil(distance) as u32
+    // 10,000 × √Q / D rounded up, by its square: the root of the whole number just below it, rounded down, and 1 more.
+    let below = (100_000_000 * squares - 1) / (distance * distance);
+    9_999 - f64::from(below as u32).sqrt() as u32
 }
