@@ -2,7 +2,7 @@
 use borrow.Author.Needs.{needs}
 use mathlib.Core.Path.{_≡_, refl, sym, _∙_}
 use mathlib.Core.Bool.{true, false}
-use lib.Ieee.{ofBits}
+use lib.Ieee.{ofBits, neg}
 use Rattle.reading.specs.Metres.{inCore}
 use Rattle.reading.specs.Depth.{core}
 use Rattle.reading.proofs.Lowest.{depths}
@@ -10,12 +10,12 @@ use Rattle.reading.proofs.core.Statement.{statement}
 use Rattle.reading.proofs.core.Tie as tie
 
 in-range-requires : tie.Need-in-range-requires
-unfolding ofBits
+unfolding ofBits neg
 in-range-requires c κs = record { low-finite = refl; low-whole = refl; high-finite = refl; high-whole = refl }
 
 -- the ends are the whole numbers of the definition
 tested : (c : tie.After-in-range) → c .in-range .result ≡ inCore (c .before .args .x)
-unfolding inCore ofBits
+unfolding inCore ofBits neg
 tested c = c .in-range .ensures
 
 within : (c : tie.Then1) → inCore (c .before .before .args .x) ≡ true

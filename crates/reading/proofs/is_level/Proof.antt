@@ -1,5 +1,5 @@
 -- `reading::is_level` meets its contract: the ends are the whole numbers of the definition. Assumes nothing.
-use mathlib.Core.Path.{refl}
+use mathlib.Core.Path.{_≡_, refl}
 use lib.Ieee.{ofBits, neg}
 use Rattle.reading.specs.Metres.{inLevel}
 use Rattle.reading.proofs.is_level.Statement.{statement}
@@ -9,9 +9,9 @@ in-range-requires : tie.Need-in-range-requires
 unfolding ofBits neg
 in-range-requires c κs = record { low-finite = refl; low-whole = refl; high-finite = refl; high-whole = refl }
 
-returns : tie.Need-returns
+tested : (c : tie.After-in-range) → c .in-range .result ≡ inLevel (c .before .args .x)
 unfolding inLevel ofBits neg
-returns c = c .in-range .ensures
+tested c = c .in-range .ensures
 
 pub is-level-spec : {M : Type 1} → statement M
-is-level-spec = tie.close (tie.spec in-range-requires returns)
+is-level-spec = tie.close (tie.spec in-range-requires tested)
