@@ -51,5 +51,5 @@ fn ten_thousandths(squares: u64, distance: u64) -> u32 {
     }
     // 10,000 × √Q / D rounded up, by its square: the root of the whole number just below it, rounded down, and 1 more.
     let below = (100_000_000 * squares - 1) / (distance * distance);
-    9_999 - f64::from(below as u32).sqrt() as u32
+    9_999 - (below as u32).isqrt()
 }

@@ -11,12 +11,12 @@ pub factor-spec : {M : Type 1} → statement M
 factor-spec =
     tie.close
     (tie.spec
-    (λ c. search (needs, no-distance))
+    (λ c. no-distance _ _ (c .if1 .taken))
     (λ c. search needs)
     (λ c. search needs)
     (λ c. search (needs, nine-fits))
     (λ c. no-discount _ _ (search needs) (omega arith))
     (λ c. search needs)
-    (λ c. search (needs, too-wide))
-    (λ c κs. search needs)
-    (λ c. c .rounded-down .ensures ∙ search (needs, between)))
+    (λ c. too-wide _ _ (search needs) (omega arith))
+    (λ c κs. omega arith)
+    (λ c. c .rounded-down .ensures ∙ between _ _ (search needs) (omega arith) (omega arith)))
