@@ -1,9 +1,9 @@
 -- Four lists, one pool at a time from the front: what the loop of `stock_sums` has behind it, and what is left. Assumes nothing.
-use mathlib.Core.Path.{_≡_, refl, sym, ap, ap₂, _∙_}
+use mathlib.Core.Path.{_≡_, sym, ap, _∙_}
 use mathlib.Core.Bool.{Bool, true, false, _&&_, false≢true}
-use mathlib.Core.List.{List, []}
+use mathlib.Core.List.{List}
 use Prim.Native.Nat.{ℕ, _+_, _*_, _<_, _≤_}
-use native.Mathlib.Nat.{le-antisymm, lt-of-not-le}
+use native.Mathlib.Nat.{lt-of-not-le}
 use native.Mathlib.Numerals.{add-one}
 use native.Mathlib.Decide.{decLe}
 use native.Mathlib.Omega.{arith}
@@ -106,8 +106,8 @@ module _ {a b c d : List ℕ} {first second i : ℕ} (p : Passed a b c d first s
   passed-stop h v =
       let s = all in
       record {
-        kept = λ e. absurd (false≢true e);
-        lost = λ _ ha hb hc.
+        valid-gives = λ e. absurd (false≢true e);
+        refused-gives = λ _ ha hb hc.
             sym (tested-stop (p .in-d) (omega arith)
             (pool-last (getD a i 0) (getD b i 0) (getD c i 0) (getD d i 0) v
             (tested-at a i (p .in-a) h ha)
@@ -121,8 +121,8 @@ module _ {a b c d : List ℕ} {first second i : ℕ} (p : Passed a b c d first s
       let w = p .in-a .within in
       let right = bounded l (sym (tested-all (p .in-a) h)) (sym (tested-all (p .in-b) (omega arith))) (sym (tested-all (p .in-c) (omega arith))) (sym (tested-all (p .in-d) (omega arith))) in
       record {
-        kept = λ _. (right .0, right .1, right .2, right .3, totalled-all c first i (p .first-is) (omega arith), totalled-all d second i (p .second-is) (omega arith));
-        lost = λ e. absurd (false≢true (sym e));
+        valid-gives = λ _. (right .0, right .1, right .2, right .3, totalled-all c first i (p .first-is) (omega arith), totalled-all d second i (p .second-is) (omega arith));
+        refused-gives = λ e. absurd (false≢true (sym e));
       }
 
   -- the sums fit

@@ -5,18 +5,18 @@ use native.Mathlib.Nat.{mul-le-mul, mul-le-mul-right, div-lt-iff-lt-mul, le-div-
 use native.Mathlib.Omega.{arith}
 use mir.Val.{Fits}
 use mir.Syntax.{w32}
-use Rattle.discount.specs.Discount.{square, roundedDown, RoundedDown}
+use Rattle.discount.specs.Discount.{square, rootLimit, roundedDown}
 use Rattle.discount.proofs.Meaning.{rounded-down-only}
 
 -- what is not above 10^8 × q, over d²
 module _ (q d k : ℕ) (h : q < d * d) (le : k ≤ 100000000 * q) where
-  pub quotient-small : k / (d * d) < 100000000
-  quotient-small = div-lt-iff-lt-mul {k = d * d} {x = k} {y = 100000000} (omega arith) .1 (omega arith)
+  pub quotient-small : k / (d * d) < rootLimit
+  quotient-small = div-lt-iff-lt-mul {k = d * d} {x = k} {y = rootLimit} (omega arith) .1 (omega arith)
 
   pub quotient-fits : Fits w32 (k / (d * d))
   quotient-fits = omega (arith, quotient-small)
 
-pub root-small : (n r : ℕ) → n < 100000000 → r * r ≤ n → r ≤ 9999
+pub root-small : (n r : ℕ) → n < rootLimit → r * r ≤ n → r ≤ 9999
 root-small n r h low = le-of-suc-le-suc (lt-of-not-le (λ (g : 10000 ≤ r). omega (arith, mul-le-mul g g)))
 
 module _ (q d : ℕ) (h₁ : 0 < q) (h₂ : q < d * d) where

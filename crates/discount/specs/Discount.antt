@@ -95,11 +95,15 @@ mostStock = mostPools * largestValue
 abbrev pub mostSquares : ℕ
 mostSquares = mostPools * square largestValue
 
+-- what a root is taken of is below 10,000 squared
+abbrev pub rootLimit : ℕ
+rootLimit = square 10000
+
 -- the values of one pool in the four lists
 unfoldable pub poolValid : ℕ → ℕ → ℕ → ℕ → Bool
 poolValid a b c d = leb a largestValue && leb b largestValue && leb c largestValue && leb d largestValue
 
 -- four lists with the sums of the last two where none is refused; where one is, it is the last unless one before it is
 pub record Added (a b c d : List ℕ) (valid : Bool) (first second : ℕ) : Type 0 where
-  pub kept : valid ≡ true → Bounded a × Bounded b × Bounded c × Bounded d × (first ≡ sum c) × (second ≡ sum d)
-  pub lost : valid ≡ false → valuesRight a ≡ true → valuesRight b ≡ true → valuesRight c ≡ true → valuesRight d ≡ false
+  pub valid-gives : valid ≡ true → Bounded a × Bounded b × Bounded c × Bounded d × (first ≡ sum c) × (second ≡ sum d)
+  pub refused-gives : valid ≡ false → valuesRight a ≡ true → valuesRight b ≡ true → valuesRight c ≡ true → valuesRight d ≡ false

@@ -10,7 +10,7 @@ ghost use Prim.Native.Nat.{_+_, _*_, _/_, _<_, _≤_};
 ghost use lib.ListN.{length};
 ghost use Rattle.words.specs.Answers.{amount};
 ghost use Rattle.sums.specs.Sums.{weighted};
-ghost use Rattle.discount.specs.Discount.{discount, lengthsRight, valuesRight, poolValid, distance, factor, roundedDown, mostStock, mostSquares, Bounded, Added};
+ghost use Rattle.discount.specs.Discount.{discount, lengthsRight, valuesRight, poolValid, distance, factor, roundedDown, mostStock, mostSquares, rootLimit, Bounded, Added};
 
 const MOST_POOLS: usize = 5;
 
@@ -87,16 +87,16 @@ fn stock_sums(
 
 // One step of Newton's towards the root of n, from any r above 0.
 fn nearer(n: u32, r: u32) -> u32
-    requires { ⌜ (n ≤ 100000000) × (0 < r) × (r ≤ 100000000) ⌝ }
+    requires { ⌜ (n ≤ rootLimit) × (0 < r) × (r ≤ rootLimit) ⌝ }
     ensures { λ s. ⌜ s ≡ (r + n / r) / 2 ⌝ }
 {
     (r + n / r) / 2
 }
 
-// The root of n, rounded down. Three steps from a number in its middle are enough for all but a few
-// n from 2,250,000 up, which is what a discount asks for.
+// The root of n, rounded down. A discount asks for no n below 2,250,000; of those from there on one
+// in a hundred takes a fourth step.
 fn root(n: u32) -> u32
-    requires { ⌜ n < 100000000 ⌝ }
+    requires { ⌜ n < rootLimit ⌝ }
     ensures { λ r. ⌜ (r * r ≤ n) × (n < (r + 1) * (r + 1)) ⌝ }
 {
     let middle = if n < 16_000_000 { 2_500 } else { 6_500 };

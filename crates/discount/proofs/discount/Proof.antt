@@ -12,19 +12,19 @@ use Rattle.discount.proofs.discount.Statement.{statement}
 use Rattle.discount.proofs.discount.Tie as tie
 
 -- no list is refused, and the sums are those of the stocks
-kept : (c : tie.Else2) →
+valid : (c : tie.Else2) →
     let a = c .before .before .before .before .before .before .before .before .before .args in
     let r = c .before .before .stock-sums .result in
     Bounded (a .first-widths .now) × Bounded (a .second-widths .now) × Bounded (a .first-stocks .now) × Bounded (a .second-stocks .now)
     × (r .first ≡ sum (a .first-stocks .now)) × (r .second ≡ sum (a .second-stocks .now))
-kept c = c .before .before .stock-sums .ensures .kept (not-false _ (c .if2 .left))
+valid c = c .before .before .stock-sums .ensures .valid-gives (not-false _ (c .if2 .left))
 
 -- D, by the sums
 apart : (c : tie.After-distance) →
     let a = c .before .before .before .before .before .before .before .before .before .before .before .before .args in
     c .distance .result ≡ distance (sum (a .first-stocks .now)) (sum (a .second-stocks .now))
 apart c =
-    let k = kept (c .before .before .before) in
+    let k = valid (c .before .before .before) in
     c .distance .ensures ∙ ap₂ distance (k .4) (k .5)
 
 pub discount-spec : {M : Type 1} → statement M
@@ -38,21 +38,21 @@ discount-spec =
     (λ c κs. said-yes _ _ (c .before .lengths-right .ensures) (c .if1 .left))
     (λ c κs.
     let e = c .before .before .before in
-    (said-yes _ _ (e .before .lengths-right .ensures) (e .if1 .left), c .before .before .stock-sums .ensures .lost (not-true _ (c .if2 .taken))))
+    (said-yes _ _ (e .before .lengths-right .ensures) (e .if1 .left), c .before .before .stock-sums .ensures .refused-gives (not-true _ (c .if2 .taken))))
     (λ c. search answers)
-    (λ c κs. kept c .0)
-    (λ c κs. kept (c .before) .1)
+    (λ c κs. valid c .0)
+    (λ c κs. valid (c .before) .1)
     (λ c. let q = c .before .squared .ensures .1 in let p = c .squared2 .ensures .1 in omega arith)
     (λ c κs. search answers)
     (λ c κs.
-    let k = kept (c .before .before .before) in
+    let k = valid (c .before .before .before) in
     let q = c .before .before .squared .ensures .1 in
     let p = c .before .squared2 .ensures .1 in
     (omega arith, omega (arith, apart c, distance-le _ _ (k .2) (k .3))))
     (λ c.
     let d = c .before in
     let e = d .before .before .before in
-    let k = kept e in
+    let k = valid e in
     let l = e .before .before .before in
     need-next _ _ _ _ _ (said-yes _ _ (l .before .lengths-right .ensures) (l .if1 .left))
     (need-next _ _ _ _ _ (k .0 .low)

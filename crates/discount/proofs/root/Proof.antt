@@ -4,29 +4,29 @@ use native.Mathlib.Omega.{arith}
 use native.Mathlib.Nat.{mul-le-mul}
 use mathlib.Core.Logic.{⊎-elim}
 use Prim.Native.Nat.{_+_, _<_, _≤_}
-use Rattle.discount.specs.Discount.{square}
+use Rattle.discount.specs.Discount.{square, rootLimit}
 use Rattle.discount.proofs.Newton.{Between, some-root, step-above, step-falls, step-between}
 use Rattle.discount.proofs.root.Statement.{statement}
 use Rattle.discount.proofs.root.Tie as tie
 
 abbrev Inv-loop : tie.InvT-loop
-Inv-loop n middle r₀ r = (n < square (r + 1)) × (r ≤ 100000000)
+Inv-loop n middle r₀ r = (n < square (r + 1)) × (r ≤ rootLimit)
 
 abbrev μ-loop : tie.MeasureT-loop
 μ-loop n middle r₀ r = r
 
 -- each of the first three steps
-from : (c : tie.Joined1 Inv-loop μ-loop) → Between 2496 100000000 (c .if1 .middle)
+from : (c : tie.Joined1 Inv-loop μ-loop) → Between 2496 rootLimit (c .if1 .middle)
 from c = ⊎-elim (λ t. record { low = omega (arith, t .1); high = omega (arith, t .1) }) (λ t. record { low = omega (arith, t .1); high = omega (arith, t .1) }) (c .if1 .came)
 
-first : (c : tie.After-nearer Inv-loop μ-loop) → Between 1248 100000000 (c .nearer .result)
-first c = step-between _ _ _ 1248 100000000 (omega arith) (from (c .before)) (c .nearer .ensures)
+first : (c : tie.After-nearer Inv-loop μ-loop) → Between 1248 rootLimit (c .nearer .result)
+first c = step-between _ _ _ 1248 rootLimit (omega arith) (from (c .before)) (c .nearer .ensures)
 
-second : (c : tie.After-nearer2 Inv-loop μ-loop) → Between 624 100000000 (c .nearer2 .result)
-second c = step-between _ _ _ 624 100000000 (omega arith) (first (c .before)) (c .nearer2 .ensures)
+second : (c : tie.After-nearer2 Inv-loop μ-loop) → Between 624 rootLimit (c .nearer2 .result)
+second c = step-between _ _ _ 624 rootLimit (omega arith) (first (c .before)) (c .nearer2 .ensures)
 
-third : (c : tie.After-nearer3 Inv-loop μ-loop) → Between 312 100000000 (c .nearer3 .result)
-third c = step-between _ _ _ 312 100000000 (omega arith) (second (c .before)) (c .nearer3 .ensures)
+third : (c : tie.After-nearer3 Inv-loop μ-loop) → Between 312 rootLimit (c .nearer3 .result)
+third c = step-between _ _ _ 312 rootLimit (omega arith) (second (c .before)) (c .nearer3 .ensures)
 
 pub root-spec : {M : Type 1} → statement M
 root-spec =
