@@ -107,12 +107,15 @@ module _ {a b c d : List ℕ} {first second i : ℕ} (p : Passed a b c d first s
       let s = all in
       record {
         valid-gives = λ e. absurd (false≢true e);
-        refused-gives = λ _ ha hb hc.
-            sym (tested-stop (p .in-d) (omega arith)
-            (pool-last (getD a i 0) (getD b i 0) (getD c i 0) (getD d i 0) v
-            (tested-at a i (p .in-a) h ha)
-            (tested-at b i (p .in-b) (omega arith) hb)
-            (tested-at c i (p .in-c) (omega arith) hc)));
+        refused-gives = λ _. record {
+          lengths = l;
+          last = λ ha hb hc.
+              sym (tested-stop (p .in-d) (omega arith)
+              (pool-last (getD a i 0) (getD b i 0) (getD c i 0) (getD d i 0) v
+              (tested-at a i (p .in-a) h ha)
+              (tested-at b i (p .in-b) (omega arith) hb)
+              (tested-at c i (p .in-c) (omega arith) hc)));
+        };
       }
 
   pub passed-all : length a ≤ i → Added a b c d true first second

@@ -103,7 +103,12 @@ rootLimit = square 10000
 unfoldable pub poolValid : ℕ → ℕ → ℕ → ℕ → Bool
 poolValid a b c d = leb a largestValue && leb b largestValue && leb c largestValue && leb d largestValue
 
--- four lists with the sums of the last two where none is refused; where one is, it is the last unless one before it is
+-- four lists of which one is refused by its values: the last, unless one before it is
+pub record TooLarge (a b c d : List ℕ) : Type 0 where
+  pub lengths : lengthsRight (length a) (length b) (length c) (length d) ≡ true
+  pub last : valuesRight a ≡ true → valuesRight b ≡ true → valuesRight c ≡ true → valuesRight d ≡ false
+
+-- four lists, with the sums of the last two where none is refused by its values
 pub record Added (a b c d : List ℕ) (valid : Bool) (first second : ℕ) : Type 0 where
   pub valid-gives : valid ≡ true → Bounded a × Bounded b × Bounded c × Bounded d × (first ≡ sum c) × (second ≡ sum d)
-  pub refused-gives : valid ≡ false → valuesRight a ≡ true → valuesRight b ≡ true → valuesRight c ≡ true → valuesRight d ≡ false
+  pub refused-gives : valid ≡ false → TooLarge a b c d

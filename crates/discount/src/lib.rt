@@ -5,12 +5,12 @@ use words::LIST_LENGTHS;
 use words::VALUE_TOO_LARGE;
 use words::refuse_amount;
 ghost use mathlib.Core.Path.{_≡_};
-ghost use mathlib.Core.Bool.{true, false};
+ghost use mathlib.Core.Bool.{true};
 ghost use Prim.Native.Nat.{_+_, _*_, _/_, _<_, _≤_};
 ghost use lib.ListN.{length};
 ghost use Rattle.words.specs.Answers.{amount};
 ghost use Rattle.sums.specs.Sums.{weighted};
-ghost use Rattle.discount.specs.Discount.{discount, lengthsRight, valuesRight, poolValid, distance, factor, roundedDown, mostStock, mostSquares, rootLimit, Bounded, Added};
+ghost use Rattle.discount.specs.Discount.{discount, lengthsRight, poolValid, distance, factor, roundedDown, mostStock, mostSquares, rootLimit, Bounded, TooLarge, Added};
 
 const MOST_POOLS: usize = 5;
 
@@ -139,7 +139,7 @@ fn refuse_value(
     first_stocks: &[u32],
     second_stocks: &[u32],
 ) -> Amount
-    requires { ⌜ (lengthsRight (length (now «first_widths»)) (length (now «second_widths»)) (length (now «first_stocks»)) (length (now «second_stocks»)) ≡ true) × (valuesRight (now «first_widths») ≡ true → valuesRight (now «second_widths») ≡ true → valuesRight (now «first_stocks») ≡ true → valuesRight (now «second_stocks») ≡ false) ⌝ }
+    requires { ⌜ TooLarge (now «first_widths») (now «second_widths») (now «first_stocks») (now «second_stocks») ⌝ }
     ensures { λ r. ⌜ amount r ≡ discount (now («first_widths» .entry)) (now («second_widths» .entry)) (now («first_stocks» .entry)) (now («second_stocks» .entry)) ⌝ }
 {
     if !sums::all_at_most(LARGEST, first_widths) {

@@ -1,7 +1,8 @@
 -- A level's millimetres by its parts: what `mm_above_lowest` works out. Assumes nothing.
 use mathlib.Core.Path.{_≡_, refl, sym, ap, _∙_}
 use Prim.Native.Nat.{ℕ, zero, suc, _+_, _-_, _*_, _/_, _^_, _≤_, _<_}
-use native.Mathlib.Nat.{mul-assoc, mul-right-comm, le-div-iff-mul-le, div-lt-iff-lt-mul, le-refl, le-antisymm, mul-lt-mul-of-pos-right, lt-of-mul-lt-mul-right, lt-of-lt-of-le, lt-of-le-of-lt, le-of-eq, div-eq-of-lt}
+use native.Mathlib.Nat.{mul-assoc, mul-right-comm, le-div-iff-mul-le, div-lt-iff-lt-mul, le-refl, le-antisymm, mul-lt-mul-of-pos-right, lt-of-mul-lt-mul-right, lt-of-lt-of-le, lt-of-le-of-lt}
+use native.Mathlib.Nat.{le-of-eq, div-eq-of-lt}
 use native.Mathlib.Omega.{arith}
 use mathlib.Core.Bool.{true, false, not, false≢true}
 use lib.IntN.{ℤ, pos, negsuc, negℤ, natAbs, _+ℤ_, _*ℤ_}

@@ -36,9 +36,7 @@ discount-spec =
     (λ c κs. search answers)
     (λ c. search answers depth 8 fits 9000)
     (λ c κs. said-yes _ _ (c .before .lengths-right .ensures) (c .if1 .left))
-    (λ c κs.
-    let e = c .before .before .before in
-    (said-yes _ _ (e .before .lengths-right .ensures) (e .if1 .left), c .before .before .stock-sums .ensures .refused-gives (not-true _ (c .if2 .taken))))
+    (λ c κs. c .before .before .stock-sums .ensures .refused-gives (not-true _ (c .if2 .taken)))
     (λ c. search answers)
     (λ c κs. valid c .0)
     (λ c κs. valid (c .before) .1)

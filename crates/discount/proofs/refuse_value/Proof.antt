@@ -23,7 +23,7 @@ refuse-value-spec =
     let e₃ = c .before in
     let e₂ = e₃ .before .before in
     let e₁ = e₂ .before .before in
-    let last = e₁ .before .before .before .before .before .before .pre .1
+    let last = e₁ .before .before .before .before .before .before .pre .last
     (said-yes _ _ (e₁ .before .all-at-most .ensures) (e₁ .if1 .left))
     (said-yes _ _ (e₂ .before .all-at-most2 .ensures) (e₂ .if2 .left))
     (said-yes _ _ (e₃ .before .all-at-most3 .ensures) (e₃ .if3 .left)) in
