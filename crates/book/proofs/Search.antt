@@ -31,13 +31,14 @@ module _ {s : Shape} {l b : List ℕ} {h : Head} {end : ℕ} (f : Fitted s l b) 
   pub cells-begin-clean : Clean (bookRight s l b) (s .head) end (entryAt s 0) true
   cells-begin-clean = rw (← first) clean-none
 
-  -- cell i, with the cell c and the words w that were read
-  module _ (i : ℕ) (c : Cell) (w : List ℕ) (lt : i < cells l) (own : c ≡ cell l i) (part : w ≡ wordsOf s b i) where
-    pub cell-room : Room s b i
-    cell-room = fitted-room s l b f i lt
+  -- cell i, with the words w that were read: it has as many as a cell has, whatever cell they are tested by
+  pub cell-sized : (i : ℕ) (w : List ℕ) → i < cells l → w ≡ wordsOf s b i → Sized (length w)
+  cell-sized i w lt part = rw part (words-right s b i (fitted-room s l b f i lt))
 
-    pub cell-sized : Sized (length w)
-    cell-sized = rw part (words-right s b i cell-room)
+  -- and with the cell c
+  module _ (i : ℕ) (c : Cell) (w : List ℕ) (lt : i < cells l) (own : c ≡ cell l i) (part : w ≡ wordsOf s b i) where
+    cell-room : Room s b i
+    cell-room = fitted-room s l b f i lt
 
     within : entryAt s i + s .entry ≤ end
     within = omega (arith, entry-before s i (cells l) lt)

@@ -36,7 +36,7 @@ sized : tie.Need-entry-clean-requires Inv-loop μ-loop
 sized c κs =
     let n = c .before .before in
     let pre = start (n .before) .pre in
-    cell-sized (pre .0) (pre .1) (pre .2) _ _ _ (there n) (c .before .cell .ensures) (c .words-of .ensures)
+    cell-sized (pre .0) (pre .1) (pre .2) _ _ (there n) (c .words-of .ensures)
 
 again : tie.Need-loop-again Inv-loop μ-loop
 again c =

@@ -37,7 +37,7 @@ sized : tie.Need-entry-wrong-requires Inv-loop μ-loop
 sized c κs =
     let n = c .before .before in
     let pre = start (n .before) .pre in
-    cell-sized (pre .0) (pre .1) (pre .2) _ _ _ (there n) (c .before .cell .ensures) (c .words-of .ensures)
+    cell-sized (pre .0) (pre .1) (pre .2) _ _ (there n) (c .words-of .ensures)
 
 at-fits : tie.Need-add-result Inv-loop μ-loop
 at-fits c =
