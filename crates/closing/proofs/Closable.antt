@@ -1,12 +1,12 @@
 -- What the steps of a closing are given, from its answers. Assumes nothing.
-use mathlib.Core.Path.{_≡_, sym, ap, _∙_}
+use mathlib.Core.Path.{_≡_, refl, sym, ap, _∙_}
 use mathlib.Core.Bool.{true, false}
 use mathlib.Core.List.{List}
 use Prim.Native.Nat.{ℕ, zero-le, _+_, _*_, _≤_, _<_}
 use native.Mathlib.Omega.{arith}
 use lib.Dec.{leb, ltb}
 use borrow.Author.Tests.{le-leb, lt-ltb, leb-true, ltb-true}
-use Rattle.words.specs.Answers.{Answer, accepted, outcome, need}
+use Rattle.words.specs.Answers.{Answer, accepted, outcome, need, after}
 use Rattle.words.specs.Refusals.{linesShort, horizonReached, lineTooLarge}
 use Rattle.words.specs.declared.Outcome.{Outcome}
 use Rattle.words.specs.declared.Outcome.the-variants.{Done}
@@ -51,6 +51,10 @@ module _ {l : List ℕ} {h : Head} {c : Cell} {e : Entry} {t : ℕ} (g : Losing 
   pub losing-fit : Fit h c (e .oxidised) (e .burned)
   losing-fit = rw (g .head-is) (record { head-right = g .accepted .head-right; cell-right = g .cell-right; lost = g .entry-right .lost })
 
+  -- whatever row is read, its figures are in range
+  pub losing-row : (r : Row) (stratum age : ℕ) → r ≡ row l stratum age → RowRight r
+  losing-row r stratum age r-is = rw r-is (g .accepted .row-right stratum age)
+
   -- where it rests
   pub resting-loss : rests h c e t ≡ true → none ≡ yearLoss (head l) (row l) c e t
   resting-loss q = sym (loss-rests (head l) (row l) c e t (rw (g .head-is) at q))
@@ -66,11 +70,12 @@ module _ {l : List ℕ} {h : Head} {c : Cell} {e : Entry} {t : ℕ} (g : Losing 
         let time = g .in-time in
         (p .1, g .cell-right .stratum, omega arith, omega arith)
 
-    pub active-row : (r : Row) → r ≡ row l (c .stratum) (age (e .plan) t) → RowRight r
-    active-row r r-is = rw r-is (g .accepted .row-right (c .stratum) (age (e .plan) t))
-
     pub active-loss : (r : Row) → r ≡ row l (c .stratum) (age (e .plan) t) → (s : Loss) → s ≡ lossOf h c r e → s ≡ yearLoss (head l) (row l) c e t
     active-loss r r-is s s-is = (rw (r-is, g .head-is) at s-is) ∙ sym (loss-active (head l) (row l) c e t active-is)
+
+-- the entry e that is read from a cell's own words can be written again
+pub step-kept : {l : List ℕ} {h : Head} {t : ℕ} (i : ℕ) (w : List ℕ) → Losing l h (cell l i) (entryOf w) t → (e : Entry) → e ≡ entryOf w → Storable e
+step-kept i w g e e-is = rw e-is (right-storable (g .accepted .head-right) (g .cell-right) (entryOf w) (g .entry-right))
 
 -- a cell's own words w, which the step was lent: c is the cell and e the entry that it read
 module _ {l : List ℕ} {h : Head} {t : ℕ} (i : ℕ) (w : List ℕ) (g : Losing l h (cell l i) (entryOf w) t) (c : Cell) (c-is : c ≡ cell l i) (e : Entry) (e-is : e ≡ entryOf w) where
@@ -90,9 +95,6 @@ module _ {l : List ℕ} {h : Head} {t : ℕ} (i : ℕ) (w : List ℕ) (g : Losin
   step-rests q =
       let nothing = rw (c-is, e-is) at (resting-loss step-losing q) in
       (nothing, e-is ∙ rw (← nothing) (sym (grown-none (entryOf w))))
-
-  pub step-kept : Storable e
-  step-kept = let g′ = step-losing in right-storable (g′ .accepted .head-right) (g′ .cell-right) e (g′ .entry-right)
 
 -- every cell of a right book can be
 pub timely-losing : {l : List ℕ} {h : Head} {b : List ℕ} {t : ℕ} → Timely l h b t → (i : ℕ) → i < cells l → Losing l h (cell l i) (entry b i) t
@@ -135,10 +137,15 @@ every-line l b a = line-most l b (sound current l b shaped a)
 
 -- ---- a closing that is accepted, and one that can be
 module _ (l b : List ℕ) (room : ℕ) where
+  -- the lines are tested before the book's words
+  order : closeAnswer l b room ≡ after (fitted l b) (after (linesChecked l room) (after (bookChecked l b) (yearChecked l b)))
+  unfolding closeAnswer
+  order = refl
+
   pub closable : closeAnswer l b room .done ≡ true → Closable l b room
-  unfolding closeAnswer linesChecked yearChecked fineLine
+  unfolding linesChecked yearChecked fineLine
   closable a =
-      let h₁ = after-says _ _ a in
+      let h₁ = after-says _ _ (rw order at a) in
       let h₂ = after-says _ _ (h₁ .1) in
       let h₃ = after-says _ _ (h₂ .1) in
       let h₄ = need-says _ _ _ _ (h₃ .1) in
@@ -162,7 +169,7 @@ module _ (l b : List ℕ) (room : ℕ) where
 
   -- what can be closed is
   pub closes : Closable l b room → closeAnswer l b room .done ≡ true
-  unfolding closeAnswer linesChecked
+  unfolding linesChecked
   closes k =
       let right = admitted-right current l b (k .admits) in
       sym
@@ -170,4 +177,5 @@ module _ (l b : List ℕ) (room : ℕ) where
       (year-fine l b (k .sound) (k .ahead)
       ∙ after-is _ (bookChecked l b) (ap (λ (a : Answer). a .done) (right-checked current l b shaped right))
       ∙ after-is _ (linesChecked l room) (ap (λ (a : Answer). a .done) (sym (need-is (leb (lineWords * cells l) room) linesShort room (accepted 0) (le-leb _ _ (k .room)))))
-      ∙ after-is _ (fitted l b) (admitted-fitted current l b (k .admits))))
+      ∙ after-is _ (fitted l b) (admitted-fitted current l b (k .admits))
+      ∙ sym order))

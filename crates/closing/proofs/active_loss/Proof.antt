@@ -1,7 +1,7 @@
 -- `closing::active_loss` meets its contract: the row is that of the cell's own stratum and age. Assumes nothing.
 use native.Mathlib.Omega.{arith}
 use borrow.Author.Needs.{needs}
-use Rattle.closing.proofs.Closable.{losing-fit, active-age, active-row, active-loss}
+use Rattle.closing.proofs.Closable.{losing-fit, losing-row, active-age, active-loss}
 use Rattle.closing.proofs.active_loss.Statement.{statement}
 use Rattle.closing.proofs.active_loss.Tie as tie
 
@@ -10,12 +10,12 @@ row-requires c κs =
     let pre = c .before .before .pre in
     let a = active-age (pre .0) (pre .1) in
     let time = pre .0 .in-time in
-    (pre .0 .accepted, pre .0 .head-is, a .1, omega arith, omega arith)
+    (pre .0 .accepted, pre .0 .head-is, omega (arith, a .1), omega arith, omega arith)
 
 loss-of-requires : tie.Need-loss-of-requires
 loss-of-requires c κs =
     let pre = c .before .before .before .pre in
-    (losing-fit (pre .0), active-row (pre .0) (pre .1) _ (c .row .ensures), pre .2)
+    (losing-fit (pre .0), losing-row (pre .0) _ _ _ (c .row .ensures), pre .2)
 
 returns : tie.Need-returns
 returns c =

@@ -18,7 +18,7 @@ kept : tie.Need-put-entry-requires
 kept c κs =
     let cell = c .before .before .before in
     let s = start cell in
-    (s .pre .0 .sized, step-kept _ (s .args .entry .now) (s .pre .2) _ (cell .cell .ensures) _ (cell .before .entry-of .ensures))
+    (s .pre .0 .sized, step-kept _ (s .args .entry .now) (s .pre .2) _ (cell .before .entry-of .ensures))
 
 rested : tie.Need-returns
 rested c =

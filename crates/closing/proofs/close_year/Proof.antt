@@ -1,6 +1,9 @@
 -- `closing::close_year` meets its contract: the cells are closed, and then the year's word is stored. Assumes nothing.
+use mathlib.Core.Path.{ap, ap₂, _∙_}
+use Prim.Native.Nat.{_+_}
 use borrow.Author.Needs.{needs}
 use native.Mathlib.Omega.{arith}
+use Rattle.book.specs.Layout.{withYear}
 use Rattle.closing.specs.Closing.{bookAfter}
 use Rattle.closing.proofs.Turn.{timely-next}
 use Rattle.closing.proofs.close_year.Statement.{statement}
@@ -16,7 +19,7 @@ unfolding bookAfter
 returns c =
     let cells = c .before .before .before .before .before .before .before .before in
     let closed = cells .close-cells .ensures in
-    (rw (c .before .before .put-year .ensures, closed .0, cells .before .before .before .year .ensures), closed .1)
+    (c .before .before .put-year .ensures ∙ ap₂ withYear (closed .0) (ap (λ t. t + 1) (cells .before .before .before .year .ensures)), closed .1)
 
 pub close-year-spec : {M : Type 1} → statement M
 close-year-spec =
