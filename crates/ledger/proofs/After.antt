@@ -84,7 +84,8 @@ pub issued-says : (l b : List ℕ) → issuing l b .answer .done ≡ true → Sa
 unfolding issuing issueAnswer
 issued-says l b h =
     let a = after-says _ _ h .0 in
-    rw (written-new (issueAnswer l b) b (withIssued b (issued b + tonnesDue l b)) h)
+    let book-is : issuing l b .book ≡ withIssued b (issued b + tonnesDue l b) = written-new (issueAnswer l b) b (withIssued b (issued b + tonnesDue l b)) h in
+    rw book-is
     (says-issued shaped (says current l b a) (issued b + tonnesDue l b) (issued-fits l b (sound current l b shaped a)))
 
 pub issued-value : (l b : List ℕ) → issuing l b .answer .done ≡ true → issuing l b .answer .value ≡ tonnesDue l b
