@@ -28,7 +28,7 @@
  *    5                         a yearly term not above the one before                  index of the later term
  *    6   every book            shorter than 2 + 3 * cells words                        length of the book
  *    7   close                 lines shorter than 3 * cells words                      length of lines
- *    8   every book but those  a word of the book is wrong; a bad sum of losses        index of the word
+ *    8   every book but those  a word of the book is invalid; a bad sum of losses      index of the word
  *        of open and forecast  counts at the word of burned mm
  *    9   close                 the book is at the horizon                              0
  *   10   replan, withdraw,     no such cell                                            0
@@ -98,7 +98,7 @@ peat_account peat_statement(const uint32_t *listing, size_t listing_len, const u
 
 /*
  * Works out every year to the horizon, as planned in the listing. Writes each year's kg CO2e over all cells into
- * `output`, year 1 first. `book` is scratch: whatever stands in it goes, and it is left as closed at the horizon.
+ * `output`, year 1 first. `book` is scratch: whatever is in it goes, and it is left as closed at the horizon.
  */
 peat_answer peat_forecast(const uint32_t *listing, size_t listing_len, uint32_t *book, size_t book_len,
                           uint64_t *output, size_t output_len);

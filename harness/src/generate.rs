@@ -309,7 +309,7 @@ fn past_size(which: &str, word: &mut u32) {
     *word = *word & !mask | figure << low;
 }
 
-/// Makes one thing wrong, most likely; some changes leave a listing or a book good.
+/// Makes one thing invalid, most likely; some changes leave a listing or a book valid.
 pub fn damage(random: &mut Random, words: &mut Vec<u32>) {
     if words.is_empty() {
         return;
@@ -358,7 +358,7 @@ impl Call {
     }
 }
 
-/// A call that may stand in a list; `current` is only a hint, so that enough replannings are accepted.
+/// A call that may be in a list; `current` is only a hint, so that enough replannings are accepted.
 pub fn call(random: &mut Random, site: &Site, current: u32) -> Call {
     let cells = site.cells.len();
     let cell = match random.between(0, 19) {

@@ -1,4 +1,4 @@
-//! The proved calls over their C interface, the reference to hold them against, and what the tests need.
+//! The proved calls over their C interface, the reference to compare them with, and what the tests need.
 pub mod baseline;
 pub mod generate;
 pub mod met;

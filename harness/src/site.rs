@@ -42,7 +42,7 @@ pub const BOOK_HEAD: usize = 2;
 pub const BOOK_CELL_WORDS: usize = 3;
 pub const LINE_WORDS: usize = 3;
 
-/// The part of a listing in which the word at a place stands, by the sizes in its word 0.
+/// The part of a listing in which the word at a place is, by the sizes in its word 0.
 pub fn part(listing: &[u32], place: usize) -> &'static str {
     let [cells, strata, horizon] =
         [(16, 0xFFF), (8, 0xFF), (0, 0xFF)].map(|(low, mask)| (listing[0] >> low & mask) as usize);
@@ -56,8 +56,8 @@ pub fn part(listing: &[u32], place: usize) -> &'static str {
     }
 }
 
-/// What one word of a listing says.
-pub enum Says<'a> {
+/// What one word of a listing contains.
+pub enum Content<'a> {
     Head(&'a Site),
     Rates(&'a Site),
     Row(usize, usize, Row),
@@ -68,24 +68,24 @@ pub enum Says<'a> {
 
 impl Site {
     /// The listing, word for word.
-    pub fn says(&self) -> Vec<Says<'_>> {
-        let mut says = vec![Says::Head(self), Says::Rates(self)];
+    pub fn contents(&self) -> Vec<Content<'_>> {
+        let mut contents = vec![Content::Head(self), Content::Rates(self)];
         for (stratum, table) in self.tables.iter().enumerate() {
-            says.extend(
+            contents.extend(
                 (1..)
                     .zip(table)
-                    .map(|(age, &row)| Says::Row(stratum, age, row)),
+                    .map(|(age, &row)| Content::Row(stratum, age, row)),
             );
         }
         for (i, &cell) in self.cells.iter().enumerate() {
-            says.extend([Says::Peat(i, cell), Says::Ground(i, cell)]);
+            contents.extend([Content::Peat(i, cell), Content::Ground(i, cell)]);
         }
-        says.extend(self.terms.iter().map(|&term| Says::Term(term)));
-        says
+        contents.extend(self.terms.iter().map(|&term| Content::Term(term)));
+        contents
     }
 
     pub fn words(&self) -> Vec<u32> {
-        self.says().iter().map(Says::word).collect()
+        self.contents().iter().map(Content::word).collect()
     }
 
     /// The words that its book needs, and its lines.
@@ -98,22 +98,22 @@ impl Site {
     }
 }
 
-impl Says<'_> {
+impl Content<'_> {
     pub fn word(&self) -> u32 {
         match *self {
-            Says::Head(site) => {
+            Content::Head(site) => {
                 let (cells, strata) = (site.cells.len() as u32, site.tables.len() as u32);
                 1 << 28 | cells << 16 | strata << 8 | site.horizon
             }
-            Says::Rates(site) => 2 << 28 | site.buffer << 16 | site.warming << 8 | site.methane,
-            Says::Row(_, _, row) => {
+            Content::Rates(site) => 2 << 28 | site.buffer << 16 | site.warming << 8 | site.methane,
+            Content::Row(_, _, row) => {
                 3 << 28 | row.drainage << 20 | row.oxidation << 10 | row.burning
             }
-            Says::Peat(_, cell) => {
+            Content::Peat(_, cell) => {
                 4 << 28 | cell.stratum << 24 | cell.conversion << 16 | cell.entered
             }
-            Says::Ground(_, cell) => 5 << 28 | cell.area << 12 | cell.density,
-            Says::Term(term) => {
+            Content::Ground(_, cell) => 5 << 28 | cell.area << 12 | cell.density,
+            Content::Term(term) => {
                 6 << 28 | term.term << 24 | term.year << 17 | term.tonnes as u32 & 0x1_FFFF
             }
         }
@@ -122,29 +122,29 @@ impl Says<'_> {
     /// The same in plain words.
     pub fn text(&self) -> String {
         match *self {
-            Says::Head(site) => format!(
+            Content::Head(site) => format!(
                 "cells {}, strata {}, horizon {} years",
                 site.cells.len(),
                 site.tables.len(),
                 site.horizon
             ),
-            Says::Rates(site) => format!(
+            Content::Rates(site) => format!(
                 "buffer {} percent, warming potential of methane {}, methane emission ratio {} thousandths",
                 site.buffer, site.warming, site.methane
             ),
-            Says::Row(stratum, age, row) => format!(
+            Content::Row(stratum, age, row) => format!(
                 "stratum {stratum}, age {age}: drainage {} cm, oxidation at most {} mm, burning at most {} mm",
                 row.drainage, row.oxidation, row.burning
             ),
-            Says::Peat(i, cell) => format!(
+            Content::Peat(i, cell) => format!(
                 "cell {i}: stratum {}, conversion year {}, entered depth {} mm",
                 cell.stratum, cell.conversion, cell.entered
             ),
-            Says::Ground(i, cell) => format!(
+            Content::Ground(i, cell) => format!(
                 "cell {i}: area {} m2, carbon density {} tenths of kg per m3",
                 cell.area, cell.density
             ),
-            Says::Term(term) => format!(
+            Content::Term(term) => format!(
                 "year {}: term {}, {} tonnes",
                 term.year, term.term, term.tonnes
             ),

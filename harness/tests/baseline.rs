@@ -1,4 +1,4 @@
-//! The benchmark's baseline beside the reference: it must be right before its speed says anything.
+//! The benchmark's baseline beside the reference: it must be correct before its speed says anything.
 use harness::generate::{self, Random};
 use harness::timed::BASELINE;
 use harness::{reference, Answer, Reading};

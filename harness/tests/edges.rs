@@ -222,11 +222,11 @@ fn largest() {
     let mut results = [&PROVED, &REFERENCE].map(|ledger| {
         let mut book = Random(6).words(2 + 3 * 256);
         let mut lines = Random(7).words(3 * 256);
-        let mut handed = Vec::new();
+        let mut returned = Vec::new();
         assert_eq!((ledger.open)(&listing, &mut book), accepted(0));
         for _ in 0..100 {
             assert_eq!((ledger.close)(&listing, &mut book, &mut lines), accepted(0));
-            handed.push((lines.clone(), (ledger.issue)(&listing, &mut book)));
+            returned.push((lines.clone(), (ledger.issue)(&listing, &mut book)));
         }
         let last = (ledger.close)(&listing, &mut book, &mut lines);
         assert_eq!(last, refused(9, 0));
@@ -236,7 +236,7 @@ fn largest() {
             (ledger.forecast)(&listing, &mut scratch, &mut output),
             accepted(0)
         );
-        (handed, book, scratch, output)
+        (returned, book, scratch, output)
     });
     assert!(results[0] == results[1]);
     // A 701st term cannot rise.
@@ -272,7 +272,7 @@ fn greatest_line() {
     });
 }
 
-/// One mm, one kg or one tonne too many handed out breaks a claim on lists of calls: none is true of itself.
+/// One mm, one kg or one tonne too many returned breaks a claim on lists of calls: none is true of itself.
 #[test]
 fn claims_that_fail() {
     let mut book = [0; 5];

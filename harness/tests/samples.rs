@@ -64,7 +64,7 @@ fn the_converter_makes_the_bytes() {
     ));
 }
 
-/// Each line that is neither a word, a remark nor empty is told by its number, and nothing is converted.
+/// Each line that is neither a word, a remark nor empty is reported by its number, and nothing is converted.
 #[test]
 fn the_converter_complains() {
     let good = "# a remark\n\n  10010102\r\n2014190c # lower case, and a remark\n";

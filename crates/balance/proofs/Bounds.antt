@@ -20,28 +20,28 @@ use Rattle.year.specs.Year.{kgOf, mostEmission}
 use Rattle.year.proofs.Laws.{emission-most}
 use Rattle.book.specs.Current.{current, issued, wordsOf, kgTo, Sound}
 use Rattle.book.specs.Layout.{issuedWords, year, entryOf}
-use Rattle.book.specs.Sound.{WordsRight}
+use Rattle.book.specs.Sound.{CellWordsValid}
 use Rattle.balance.specs.Balance.{peatTonnes, mostPeat, toDate, withheld, balanceOf, balance, mostBalance, mostTonnes, due, balanceIn, tonnesDue}
 
 -- ---- peat: each cell has its most
 module _ (l b : List ℕ) (sound : Sound l b) where
   pub kg-most : (n : ℕ) → n ≤ cells l → sumBelow (kgTo l b) n ≤ mostEmission * n
-  kg-most n h = sum-most (kgTo l b) mostEmission n (λ i p. emission-most (sound .words-right i (omega arith) .fit))
+  kg-most n h = sum-most (kgTo l b) mostEmission n (λ i p. emission-most (sound .words-valid i (omega arith) .fit))
 
   pub peat-most : peatTonnes l (kgTo l b) ≤ mostPeat
   unfolding peatTonnes
-  peat-most = let few = sound .fitted .accepted .head-right .cells .1 in omega (arith, kg-most (cells l) (omega arith))
+  peat-most = let cells-most = sound .fitted .accepted .head-valid .cells .1 in omega (arith, kg-most (cells l) (omega arith))
 
--- a turn of the sum: h, c, w and r are what the calls for the head, cell i, its words in the book and its kg to date answered
+-- an iteration of the sum: h, c, w and r are what the calls for the head, cell i, its words in the book and its kg to date answered
 module _ (l b : List ℕ) (sound : Sound l b) {h : Head} {i : ℕ} {c : Cell} {w : List ℕ}
     (ph : h ≡ head l) (pc : c ≡ cell l i) (pw : w ≡ wordsOf b i) (lt : i < cells l) where
-  pub turn-words : WordsRight h c w
-  turn-words = rw (ph, pc, pw) (sound .words-right i lt)
+  pub kg-words : CellWordsValid h c w
+  kg-words = rw (ph, pc, pw) (sound .words-valid i lt)
 
   -- kg is the sum so far: with r it is that of one cell more, and fits
-  pub turn : {kg r : ℕ} → kg ≡ sumBelow (kgTo l b) i → r ≡ kgOf h c (entryOf w) → (kg + r ≡ sumBelow (kgTo l b) (i + 1)) × (kg + r < 2 ^ 64)
-  turn {kg} {r} pk pr =
-      let few = sound .fitted .accepted .head-right .cells .1 in
+  pub kg-next : {kg r : ℕ} → kg ≡ sumBelow (kgTo l b) i → r ≡ kgOf h c (entryOf w) → (kg + r ≡ sumBelow (kgTo l b) (i + 1)) × (kg + r < 2 ^ 64)
+  kg-next {kg} {r} pk pr =
+      let cells-most = sound .fitted .accepted .head-valid .cells .1 in
       let adds : kg + r ≡ sumBelow (kgTo l b) (i + 1) = sum-next (kgTo l b) i pk (rw (pr, ph, pc, pw)) in
       (adds, omega (arith, kg-most l b sound (i + 1) (omega arith)))
 
@@ -58,7 +58,7 @@ module _ (l : List ℕ) (t peat : ℕ) (a : Accepted l) where
   unfolding balanceOf
   balance-size =
       let held = withheld (head l .buffer) (toDate l t peat 5) in
-      omega (arith, held-size (head l .buffer) (toDate l t peat 5) (a .head-right .buffer), date-size 5, date-size 8, size-minus (toDate l t peat 8) (pos held))
+      omega (arith, held-size (head l .buffer) (toDate l t peat 5) (a .head-valid .buffer), date-size 5, date-size 8, size-minus (toDate l t peat 8) (pos held))
 
   -- what is withheld only takes away
   pub balance-most : atLeast0 (balanceOf l t peat) ≤ peat + mostTerms
@@ -66,8 +66,9 @@ module _ (l : List ℕ) (t peat : ℕ) (a : Accepted l) where
   balance-most =
       omega (arith, atLeast0-less (toDate l t peat 8) (withheld (head l .buffer) (toDate l t peat 5)), atLeast0-add (pos peat) (termsToDate l t 8), terms-most l t 8 a)
 
--- it goes by the year, the kg of all cells, the terms and the buffer
-pub balance-by : (l l′ : List ℕ) (t t′ : ℕ) (kg kg′ : ℕ → ℕ) → t ≡ t′ → sumBelow kg (cells l) ≡ sumBelow kg′ (cells l′) → head l .buffer ≡ head l′ .buffer → ((u last : ℕ) → termsToDate l u last ≡ termsToDate l′ u last) → balance l t kg ≡ balance l′ t′ kg′
+-- it depends on the year, the kg of all cells, the terms and the buffer
+pub balance-by : (l l′ : List ℕ) (t t′ : ℕ) (kg kg′ : ℕ → ℕ) → t ≡ t′ → sumBelow kg (cells l) ≡ sumBelow kg′ (cells l′) → head l .buffer ≡ head l′ .buffer →
+    ((u last : ℕ) → termsToDate l u last ≡ termsToDate l′ u last) → balance l t kg ≡ balance l′ t′ kg′
 unfolding peatTonnes balanceOf
 balance-by l l′ t t′ kg kg′ p q buffer terms = rw (p, q, terms t′ 8, terms t′ 5, buffer)
 
@@ -82,7 +83,7 @@ balance-fits l b s =
     (omega (arith, balance-size l (year b) peat a, peat-most l b s), omega (arith, balance-most l (year b) peat a, peat-most l b s))
 
 -- ---- an issue
--- it brings the tonnes issued up to the balance z
+-- it raises the tonnes issued to the balance z
 pub issue-max : (z : ℤ) (tonnes : ℕ) → tonnes + due z tonnes ≡ max (atLeast0 z) tonnes
 unfolding due
 issue-max z tonnes = omega (arith, atLeast0-less z tonnes)

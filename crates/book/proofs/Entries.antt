@@ -16,26 +16,26 @@ use Rattle.fields.specs.declared.Head.{Head}
 use Rattle.fields.specs.declared.Cell.{Cell}
 use Rattle.year.specs.declared.Entry.{Entry}
 use Rattle.book.specs.Layout.{yearKind, issuedKind, Shaped, entryAt, yearAt, issuedAt, issuedWords, year, issued, entryOf, wordsOf, entry, stored, withYear, withIssued, planWord, withPlan}
-use Rattle.book.specs.Check.{entryRight}
-use Rattle.book.specs.Sound.{Room, All}
+use Rattle.book.specs.Check.{entryValid}
+use Rattle.book.specs.Sound.{CellInBook, All}
 use Rattle.book.specs.declared.Shape.{Shape}
 use Rattle.book.proofs.Places.{entry-before}
-use Rattle.book.proofs.Words.{plan-of, mark-of, plan-right}
+use Rattle.book.proofs.Words.{plan-of, mark-of, plan-valid}
 use Rattle.book.proofs.Numbers.{joined-same, joined-beside, joined-stored, stored-keeps}
-use Rattle.book.proofs.Right.{entry-rest}
+use Rattle.book.proofs.Valid.{entry-rest}
 use Rattle.book.proofs.Sound.{words-long}
 
 -- the word at offset j of cell i, by its place in the book
 pub entry-word : (s : Shape) (b : List ℕ) (i j : ℕ) → j < s .entry → getD (wordsOf s b i) j 0 ≡ getD b (entryAt s i + j) 0
 entry-word s b i j h = rw (getD-take, getD-drop)
 
--- an entry goes by its words
+-- an entry depends on its words
 pub entry-by : (w v : List ℕ) → ((k : ℕ) → k < 3 → getD w k 0 ≡ getD v k 0) → entryOf w ≡ entryOf v
 unfolding entryOf
 entry-by w v same = rw (same 0 (omega arith), same 1 (omega arith), same 2 (omega arith))
 
--- the year and the tonnes issued go by the words of the head
-module _ (s : Shape) (x y : List ℕ) (some : 1 ≤ s .head) (same : (k : ℕ) → k < s .head → getD x k 0 ≡ getD y k 0) where
+-- the year and the tonnes issued depend on the words of the head
+module _ (s : Shape) (x y : List ℕ) (head-positive : 1 ≤ s .head) (same : (k : ℕ) → k < s .head → getD x k 0 ≡ getD y k 0) where
   pub year-by : year x ≡ year y
   unfolding year
   year-by = joined-same x y yearAt 1 (λ j lt. same (yearAt + j) (omega arith))
@@ -48,12 +48,12 @@ module _ (s : Shape) (x y : List ℕ) (some : 1 ≤ s .head) (same : (k : ℕ) �
 
 pub year-put : (b : List ℕ) (t : ℕ) → 0 < length b → t < 2 ^ 28 → year (withYear b t) ≡ t
 unfolding year
-year-put b t room h = joined-stored yearKind yearAt 1 t b (omega arith) (omega arith)
+year-put b t capacity h = joined-stored yearKind yearAt 1 t b (omega arith) (omega arith)
 
 module _ (s : Shape) where
   pub issued-put : (b : List ℕ) (n : ℕ) → s .head ≤ length b → 1 ≤ s .head → n < 2 ^ (28 * issuedWords s) → issued s (withIssued s b n) ≡ n
   unfolding issued
-  issued-put b n room some h = joined-stored issuedKind issuedAt (issuedWords s) n b (omega arith) h
+  issued-put b n capacity head-positive h = joined-stored issuedKind issuedAt (issuedWords s) n b (omega arith) h
 
   pub year-issued : (b : List ℕ) (n : ℕ) → year (withIssued s b n) ≡ year b
   unfolding year
@@ -76,10 +76,11 @@ module _ (s : Shape) where
 
   -- a number stored in the head
   pub words-stored : (b : List ℕ) (kind from n x i : ℕ) → from + n ≤ s .head → wordsOf s (stored kind b from n x) i ≡ wordsOf s b i
-  words-stored b kind from n x i room = stored-keeps (λ (d : List ℕ). wordsOf s d i ≡ wordsOf s b i) kind from n x b (λ d k w h lt small e. before-words d k (wordOf kind w) i (omega arith) ∙ e) refl
+  words-stored b kind from n x i capacity =
+      stored-keeps (λ (d : List ℕ). wordsOf s d i ≡ wordsOf s b i) kind from n x b (λ d k w h lt small e. before-words d k (wordOf kind w) i (omega arith) ∙ e) refl
 
   pub entry-stored : (b : List ℕ) (kind from n x i : ℕ) → from + n ≤ s .head → entry s (stored kind b from n x) i ≡ entry s b i
-  entry-stored b kind from n x i room = ap entryOf (words-stored b kind from n x i room)
+  entry-stored b kind from n x i capacity = ap entryOf (words-stored b kind from n x i capacity)
 
 -- ---- a store to a plan word
 
@@ -98,14 +99,14 @@ module _ (w : List ℕ) (long : 3 ≤ length w) (f : Bool) (y : ℕ) where
   unfolding entryOf
   entry-first h = rw (first, other 1 (omega arith), other 2 (omega arith), plan-of f y h, mark-of f y h)
 
-  right-first : (n : ℕ) (h : Head) (c : Cell) → y ≤ h .horizon → h .horizon < 2 ^ 8 → All (entryRight h c w) n → All (entryRight h c (set w 0 (planWord f y))) n
-  unfolding entryRight
-  right-first n h c p q r =
+  valid-first : (n : ℕ) (h : Head) (c : Cell) → y ≤ h .horizon → h .horizon < 2 ^ 8 → All (entryValid h c w) n → All (entryValid h c (set w 0 (planWord f y))) n
+  unfolding entryValid
+  valid-first n h c p q r =
       record {
         each =
             λ j lt.
-            by-test (λ (t : Bool). entryRight h c (set w 0 (planWord f y)) j ≡ true) (eqb j 0) true true
-            (λ e. rw (e, first) (plan-right (h .horizon) f y p q))
+            by-test (λ (t : Bool). entryValid h c (set w 0 (planWord f y)) j ≡ true) (eqb j 0) true true
+            (λ e. rw (e, first) (plan-valid (h .horizon) f y p q))
             (λ e. entry-rest h c (set w 0 (planWord f y)) w other j e ∙ r .each j lt);
       }
 
@@ -135,38 +136,38 @@ module _ (s : Shape) (g : Shaped s) (b : List ℕ) (i : ℕ) (w : ℕ) (j : ℕ)
       (λ e. rw (eqb-true i j e) first-word)
       (λ e. other-word (eqb-false i j e))
 
-module _ (s : Shape) (b : List ℕ) (i : ℕ) (new : Entry) (j : ℕ) (room : Room s b j) where
+module _ (s : Shape) (b : List ℕ) (i : ℕ) (new : Entry) (j : ℕ) (capacity : CellInBook s b j) where
   abbrev word : ℕ
   word = planWord (new .withdrawn) (new .plan)
 
   pub entry-put : new .plan < 2 ^ 8 → entry s (withPlan s b i new) j ≡ cond (eqb i j) (replaced (entry s b j) (new .withdrawn) (new .plan)) (entry s b j)
-  entry-put h = ap entryOf (words-put s (room .shaped) b i word j) ∙ case (eqb i j)
+  entry-put h = ap entryOf (words-put s (capacity .shaped) b i word j) ∙ case (eqb i j)
     where
       case : (t : Bool) → entryOf (cond t (set (wordsOf s b j) 0 word) (wordsOf s b j)) ≡ cond t (replaced (entry s b j) (new .withdrawn) (new .plan)) (entry s b j)
-      case true = entry-first (wordsOf s b j) (words-long s b j room) (new .withdrawn) (new .plan) h
+      case true = entry-first (wordsOf s b j) (words-long s b j capacity) (new .withdrawn) (new .plan) h
       case false = refl
 
-  pub right-put : (n : ℕ) (h : Head) (c : Cell) → new .plan ≤ h .horizon → h .horizon < 2 ^ 8 → All (entryRight h c (wordsOf s b j)) n → All (entryRight h c (wordsOf s (withPlan s b i new) j)) n
-  right-put n h c p q r =
-      rw (words-put s (room .shaped) b i word j)
-      (by-test (λ (w : List ℕ). All (entryRight h c w) n) (eqb i j) (set (wordsOf s b j) 0 word) (wordsOf s b j)
-      (λ e. right-first (wordsOf s b j) (words-long s b j room) (new .withdrawn) (new .plan) n h c p q r)
+  pub valid-put : (n : ℕ) (h : Head) (c : Cell) → new .plan ≤ h .horizon → h .horizon < 2 ^ 8 → All (entryValid h c (wordsOf s b j)) n → All (entryValid h c (wordsOf s (withPlan s b i new) j)) n
+  valid-put n h c p q r =
+      rw (words-put s (capacity .shaped) b i word j)
+      (by-test (λ (w : List ℕ). All (entryValid h c w) n) (eqb i j) (set (wordsOf s b j) 0 word) (wordsOf s b j)
+      (λ e. valid-first (wordsOf s b j) (words-long s b j capacity) (new .withdrawn) (new .plan) n h c p q r)
       (λ e. r))
 
 -- ---- the words of n cells, all stored
 
-module _ (s : Shape) (b : List ℕ) (f : ℕ → List ℕ) (sized : (i : ℕ) → length (f i) ≡ s .entry) (room : s .head ≤ length b) (n : ℕ) where
+module _ (s : Shape) (b : List ℕ) (f : ℕ → List ℕ) (sized : (i : ℕ) → length (f i) ≡ s .entry) (capacity : s .head ≤ length b) (n : ℕ) where
   pub head-filled : (k : ℕ) → k < s .head → getD (filled (s .entry) b (s .head) f n) k 0 ≡ getD b k 0
-  head-filled k h = filled-before (s .entry) b (s .head) f sized room n k h
+  head-filled k h = filled-before (s .entry) b (s .head) f sized capacity n k h
 
   pub year-filled : 1 ≤ s .head → year (filled (s .entry) b (s .head) f n) ≡ year b
-  year-filled some = year-by s _ b some head-filled
+  year-filled head-positive = year-by s _ b head-positive head-filled
 
   pub issued-filled : 1 ≤ s .head → issued s (filled (s .entry) b (s .head) f n) ≡ issued s b
-  issued-filled some = issued-by s _ b some head-filled
+  issued-filled head-positive = issued-by s _ b head-positive head-filled
 
   pub words-filled : (i : ℕ) → i < n → wordsOf s (filled (s .entry) b (s .head) f n) i ≡ f i
-  words-filled i h = filled-block (s .entry) b (s .head) f sized room n i h
+  words-filled i h = filled-block (s .entry) b (s .head) f sized capacity n i h
 
   pub entry-filled : (i : ℕ) → i < n → entry s (filled (s .entry) b (s .head) f n) i ≡ entryOf (f i)
   entry-filled i h = ap entryOf (words-filled i h)

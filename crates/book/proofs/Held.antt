@@ -1,10 +1,10 @@
--- A cell's words as they are written: they give the entry and the kg back, and they are right. Assumes nothing.
+-- A cell's words as they are written: they give the entry and the kg back, and they are valid. Assumes nothing.
 use mathlib.Core.Path.{_≡_, refl}
 use mathlib.Core.List.{List}
 use Prim.Native.Nat.{ℕ, _<_}
 use native.Mathlib.Omega.{arith}
 use lib.ListN.{length}
-use Rattle.fields.specs.Right.{HeadRight, CellRight}
+use Rattle.fields.specs.Valid.{HeadValid, CellValid}
 use Rattle.fields.specs.declared.Head.{Head}
 use Rattle.fields.specs.declared.Cell.{Cell}
 use Rattle.listing.specs.Layout.{head, cells, cell}
@@ -13,12 +13,12 @@ use Rattle.year.specs.Year.{mostLoss}
 use Rattle.year.specs.declared.Entry.{Entry}
 use Rattle.year.proofs.Laws.{most-entered}
 use Rattle.book.specs.Layout.{oxidisedKind, burnedKind, Sized, Shaped, entryOf, heldWords}
-use Rattle.book.specs.Check.{entryRight}
+use Rattle.book.specs.Check.{entryValid}
 use Rattle.book.specs.Held.{heldAt}
-use Rattle.book.specs.Sound.{All, Storable, EntryRight}
+use Rattle.book.specs.Sound.{All, Storable, EntryValid}
 use Rattle.book.specs.declared.Shape.{Shape}
-use Rattle.book.proofs.Words.{number-of, plan-of, mark-of, plan-right, oxidised-right, burned-right}
-use Rattle.book.proofs.Right.{entry-all}
+use Rattle.book.proofs.Words.{payload-of, plan-of, mark-of, plan-valid, oxidised-valid, burned-valid}
+use Rattle.book.proofs.Valid.{entry-all}
 use Rattle.book.proofs.Sound.{by-size}
 
 -- they are as many as asked
@@ -30,42 +30,42 @@ module _ (n : ℕ) (g : Sized n) (e : Entry) (fits : Storable e) where
   pub held-entry : entryOf (heldWords n e) ≡ e
   unfolding heldWords entryOf
   held-entry =
-      let o = number-of oxidisedKind (e .oxidised) (fits .oxidised) in
-      let b = number-of burnedKind (e .burned) (fits .burned) in
+      let o = payload-of oxidisedKind (e .oxidised) (fits .oxidised) in
+      let b = payload-of burnedKind (e .burned) (fits .burned) in
       let p = plan-of (e .withdrawn) (e .plan) (fits .plan) in
       let m = mark-of (e .withdrawn) (e .plan) (fits .plan) in
       by-size (λ (m : ℕ). entryOf (heldWords m e) ≡ e) n g (rw (m, p, o, b))
 
--- a right entry of a right cell fits its words
-module _ {h : Head} {c : Cell} (head : HeadRight h) (cell : CellRight (h .strata) (h .horizon) c) (e : Entry) (right : EntryRight h c e) where
-  pub right-storable : Storable e
-  right-storable =
+-- a valid entry of a valid cell fits its words
+module _ {h : Head} {c : Cell} (head : HeadValid h) (cell : CellValid (h .strata) (h .horizon) c) (e : Entry) (valid : EntryValid h c e) where
+  pub valid-storable : Storable e
+  valid-storable =
       let most = cell .entered in
-      let lost = right .lost in
-      let plan = right .plan in
+      let lost = valid .lost in
+      let plan = valid .plan in
       let horizon = head .horizon .1 in
       record { plan = omega arith; oxidised = omega arith; burned = omega arith }
 
-  -- and its words are right
-  pub held-right : (n : ℕ) → Sized n → All (entryRight h c (heldWords n e)) n
+  -- and its words are valid
+  pub held-valid : (n : ℕ) → Sized n → All (entryValid h c (heldWords n e)) n
   unfolding heldWords
-  held-right n g =
+  held-valid n g =
       let most = cell .entered in
       let horizon = head .horizon .1 in
-      let p = plan-right (h .horizon) (e .withdrawn) (e .plan) (right .plan) (omega arith) in
-      let o = oxidised-right (e .oxidised) (right-storable .oxidised) in
-      let b = burned-right (mostLoss h c) (e .oxidised) (e .burned) (right .most) (omega (arith, most-entered h c)) in
-      by-size (λ (m : ℕ). All (entryRight h c (heldWords m e)) m) n g (entry-all 3 h c (heldWords 3 e) p o b)
+      let p = plan-valid (h .horizon) (e .withdrawn) (e .plan) (valid .plan) (omega arith) in
+      let o = oxidised-valid (e .oxidised) (valid-storable .oxidised) in
+      let b = burned-valid (mostLoss h c) (e .oxidised) (e .burned) (valid .most) (omega (arith, most-entered h c)) in
+      by-size (λ (m : ℕ). All (entryValid h c (heldWords m e)) m) n g (entry-all 3 h c (heldWords 3 e) p o b)
 
--- ---- all cells of an accepted listing, with right entries e
+-- ---- all cells of an accepted listing, with valid entries e
 
 module _ (s : Shape) (g : Shaped s) (e : ℕ → Entry) where
   pub held-at-sized : (i : ℕ) → length (heldAt s e i) ≡ s .entry
   held-at-sized i = held-sized (s .entry) (e i) (g .entry)
 
-  module _ (l : List ℕ) (a : Accepted l) (right : (i : ℕ) → i < cells l → EntryRight (head l) (cell l i) (e i)) where
-    pub held-at-right : (i : ℕ) → i < cells l → All (entryRight (head l) (cell l i) (heldAt s e i)) (s .entry)
-    held-at-right i lt = held-right (a .head-right) (a .cell-right i lt) (e i) (right i lt) (s .entry) (g .entry)
+  module _ (l : List ℕ) (a : Accepted l) (valid : (i : ℕ) → i < cells l → EntryValid (head l) (cell l i) (e i)) where
+    pub held-at-valid : (i : ℕ) → i < cells l → All (entryValid (head l) (cell l i) (heldAt s e i)) (s .entry)
+    held-at-valid i lt = held-valid (a .head-valid) (a .cell-valid i lt) (e i) (valid i lt) (s .entry) (g .entry)
 
     pub held-at-entry : (i : ℕ) → i < cells l → entryOf (heldAt s e i) ≡ e i
-    held-at-entry i lt = held-entry (s .entry) (g .entry) (e i) (right-storable (a .head-right) (a .cell-right i lt) (e i) (right i lt))
+    held-at-entry i lt = held-entry (s .entry) (g .entry) (e i) (valid-storable (a .head-valid) (a .cell-valid i lt) (e i) (valid i lt))

@@ -3,11 +3,11 @@ pub mod Places
 pub mod Words
 pub mod Numbers
 pub mod Parts
-pub mod Right
+pub mod Valid
 pub mod Sound
 pub mod Search
 pub mod Held
 pub mod Entries
 pub mod Keeps
 pub mod New
-pub mod Says
+pub mod Holds

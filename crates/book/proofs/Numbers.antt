@@ -15,8 +15,8 @@ use Rattle.words.specs.Blocks.{filled}
 use Rattle.words.proofs.Blocks.{filled-set}
 use Rattle.words.proofs.Fields.{field-below}
 use Rattle.words.proofs.Signed.{by-equal}
-use Rattle.book.specs.Layout.{number, joined, stored}
-use Rattle.book.proofs.Words.{number-of, kind-of}
+use Rattle.book.specs.Layout.{payload, joined, stored}
+use Rattle.book.proofs.Words.{payload-of, kind-of}
 
 pub joined-below : (b : List ℕ) (from n : ℕ) → joined b from n < 2 ^ (28 * n)
 unfolding joined
@@ -33,7 +33,7 @@ joined-one b from (suc (suc n)) h = absurd (omega arith)
 pub joined-same : (x y : List ℕ) (from n : ℕ) → ((j : ℕ) → j < n → getD x (from + j) 0 ≡ getD y (from + j) 0) → joined x from n ≡ joined y from n
 unfolding joined
 joined-same x y from zero e = refl
-joined-same x y from (suc n) e = ap₂ (λ (m w : ℕ). m * 2 ^ 28 + number w) (joined-same x y from n (λ j h. e j (omega arith))) (e n (omega arith))
+joined-same x y from (suc n) e = ap₂ (λ (m w : ℕ). m * 2 ^ 28 + payload w) (joined-same x y from n (λ j h. e j (omega arith))) (e n (omega arith))
 
 -- and not from a word elsewhere
 pub joined-kept : (b : List ℕ) (k w from n : ℕ) → (from ≤ k → from + n ≤ k) → joined (set b k w) from n ≡ joined b from n
@@ -66,20 +66,22 @@ stored-outside kind from n x k b out =
 -- and it is read back
 pub joined-stored : (kind from n x : ℕ) (b : List ℕ) → from + n ≤ length b → x < 2 ^ (28 * n) → joined (stored kind b from n x) from n ≡ x
 unfolding joined stored
-joined-stored kind from zero x b room h = omega arith
-joined-stored kind from (suc n) x b room h =
+joined-stored kind from zero x b capacity h = omega arith
+joined-stored kind from (suc n) x b capacity h =
     let w = wordOf kind (x % 2 ^ 28) in
     let d = set b (from + n) w in
-    let high : joined (stored kind d from n (x / 2 ^ 28)) from n ≡ x / 2 ^ 28 = joined-stored kind from n (x / 2 ^ 28) d (omega (arith, length-set b (from + n) w)) (shr-lt (28 * n) 28 (rw mul-suc at h)) in
-    let low : number (getD (stored kind d from n (x / 2 ^ 28)) (from + n) 0) ≡ x % 2 ^ 28 =
-    ap number (stored-outside kind from n (x / 2 ^ 28) (from + n) d (λ le. omega arith) ∙ getD-set-same b (from + n) w 0 (omega arith)) ∙ number-of kind (x % 2 ^ 28) (omega arith) in
+    let high : joined (stored kind d from n (x / 2 ^ 28)) from n ≡ x / 2 ^ 28 =
+    joined-stored kind from n (x / 2 ^ 28) d (omega (arith, length-set b (from + n) w)) (shr-lt (28 * n) 28 (rw mul-suc at h)) in
+    let low : payload (getD (stored kind d from n (x / 2 ^ 28)) (from + n) 0) ≡ x % 2 ^ 28 =
+    ap payload (stored-outside kind from n (x / 2 ^ 28) (from + n) d (λ le. omega arith) ∙ getD-set-same b (from + n) w 0 (omega arith)) ∙ payload-of kind (x % 2 ^ 28) (omega arith) in
     ap₂ (λ (m r : ℕ). m * 2 ^ 28 + r) high low ∙ omega arith
 
 -- two lists that agree beside it agree everywhere once it is stored in both
-pub stored-same : (kind from n x k : ℕ) (b b′ : List ℕ) → from + n ≤ length b → from + n ≤ length b′ → ((from ≤ k → from + n ≤ k) → getD b k 0 ≡ getD b′ k 0) → getD (stored kind b from n x) k 0 ≡ getD (stored kind b′ from n x) k 0
+pub stored-same : (kind from n x k : ℕ) (b b′ : List ℕ) → from + n ≤ length b → from + n ≤ length b′ → ((from ≤ k → from + n ≤ k) → getD b k 0 ≡ getD b′ k 0) →
+    getD (stored kind b from n x) k 0 ≡ getD (stored kind b′ from n x) k 0
 unfolding stored
-stored-same kind from zero x k b b′ room room′ same = same (λ le. omega arith)
-stored-same kind from (suc n) x k b b′ room room′ same =
+stored-same kind from zero x k b b′ capacity room′ same = same (λ le. omega arith)
+stored-same kind from (suc n) x k b b′ capacity room′ same =
     let w = wordOf kind (x % 2 ^ 28) in
     stored-same kind from n (x / 2 ^ 28) k (set b (from + n) w) (set b′ (from + n) w) (rw length-set (omega arith)) (rw length-set (omega arith))
     (λ beside.
@@ -92,8 +94,8 @@ stored-same kind from (suc n) x k b b′ room room′ same =
 -- each word of it is of its kind
 pub stored-kind : (kind from n x : ℕ) (b : List ℕ) → kind < 16 → from + n ≤ length b → (j : ℕ) → j < n → isKind kind (getD (stored kind b from n x) (from + j) 0) ≡ true
 unfolding stored
-stored-kind kind from zero x b small room j lt = absurd (omega arith)
-stored-kind kind from (suc n) x b small room j lt =
+stored-kind kind from zero x b small capacity j lt = absurd (omega arith)
+stored-kind kind from (suc n) x b small capacity j lt =
     let w = wordOf kind (x % 2 ^ 28) in
     let d = set b (from + n) w in
     ⊎-elim
@@ -112,8 +114,8 @@ stored-set kind from (suc n) x k w b h =
 pub stored-filled : (kind from n x size at : ℕ) (b : List ℕ) (f : ℕ → List ℕ) → ((i : ℕ) → length (f i) ≡ size) → (m : ℕ) → at ≤ length b → from + n ≤ at →
     stored kind (filled size b at f m) from n x ≡ filled size (stored kind b from n x) at f m
 unfolding stored
-stored-filled kind from zero x size at b f sized m room front = refl
-stored-filled kind from (suc n) x size at b f sized m room front =
+stored-filled kind from zero x size at b f sized m capacity front = refl
+stored-filled kind from (suc n) x size at b f sized m capacity front =
     let w = wordOf kind (x % 2 ^ 28) in
-    ap (λ (d : List ℕ). stored kind d from n (x / 2 ^ 28)) (filled-set size b at f sized room m (from + n) w (omega arith))
-    ∙ stored-filled kind from n (x / 2 ^ 28) size at (set b (from + n) w) f sized m (rw length-set room) (omega arith)
+    ap (λ (d : List ℕ). stored kind d from n (x / 2 ^ 28)) (filled-set size b at f sized capacity m (from + n) w (omega arith))
+    ∙ stored-filled kind from n (x / 2 ^ 28) size at (set b (from + n) w) f sized m (rw length-set capacity) (omega arith)

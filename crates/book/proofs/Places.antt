@@ -1,11 +1,11 @@
--- Where the words of a book of any shape stand: a place behind the head is a cell and an offset in it. Assumes nothing.
+-- Where the words of a book of any shape are: a place behind the head is a cell and an offset in it. Assumes nothing.
 use mathlib.Core.Path.{_≡_, ap, _∙_}
 use Prim.Native.Nat.{ℕ, _+_, _-_, _*_, _/_, _%_, _^_, _≤_, _<_}
 use native.Mathlib.Nat.{mul-suc, mul-comm, mul-le-mul, mul-le-mul-left, mod-lt, div-lt-iff-lt-mul}
 use native.Mathlib.Numerals.{add-one}
 use native.Mathlib.Omega.{arith}
 use lib.Arith.{digits-div, digits-mod}
-use Rattle.book.specs.Layout.{Shaped, entryAt, bookSize, cellAt, offsetAt}
+use Rattle.book.specs.Layout.{Shaped, entryAt, bookSize, cellOfPlace, offsetOfPlace}
 use Rattle.book.specs.declared.Shape.{Shape}
 
 module _ (s : Shape) where
@@ -21,18 +21,18 @@ module _ (s : Shape) where
     behind : entryAt s i + j - s .head ≡ i * s .entry + j
     behind = omega (arith, mul-comm (s .entry) i)
 
-    pub cell-at : cellAt s (entryAt s i + j) ≡ i
-    cell-at = ap (λ (m : ℕ). m / s .entry) behind ∙ digits-div i lt
+    pub cell-of-place : cellOfPlace s (entryAt s i + j) ≡ i
+    cell-of-place = ap (λ (m : ℕ). m / s .entry) behind ∙ digits-div i lt
 
-    pub offset-at : offsetAt s (entryAt s i + j) ≡ j
-    offset-at = ap (λ (m : ℕ). m % s .entry) behind ∙ digits-mod i lt
+    pub offset-of-place : offsetOfPlace s (entryAt s i + j) ≡ j
+    offset-of-place = ap (λ (m : ℕ). m % s .entry) behind ∙ digits-mod i lt
 
   -- and back
   module _ (g : Shaped s) (k : ℕ) (h : s .head ≤ k) where
-    pub offset-below : offsetAt s k < s .entry
+    pub offset-below : offsetOfPlace s k < s .entry
     offset-below = let p = g .entry in mod-lt (k - s .head) (omega arith)
 
-    pub cell-below : (n : ℕ) → k < bookSize s n → cellAt s k < n
+    pub cell-below : (n : ℕ) → k < bookSize s n → cellOfPlace s k < n
     cell-below n q = let p = g .entry in div-lt-iff-lt-mul {k = s .entry} {x = k - s .head} {y = n} (omega arith) .1 (omega (arith, mul-comm (s .entry) n))
 
   -- a book of fewer than 2 ^ 32 cells has a size that fits

@@ -6,56 +6,58 @@ use Prim.Native.Nat.{ℕ, _+_, _≤_, _<_}
 use native.Mathlib.Nat.{mul-zero}
 use native.Mathlib.Omega.{arith}
 use lib.ListN.{length}
-use Rattle.words.specs.Search.{firstWrong}
-use Rattle.words.proofs.Steps.{Passed, passed-none, Clean, clean-none}
+use Rattle.words.specs.Search.{firstInvalid}
+use Rattle.words.proofs.Steps.{Passed, passed-none, ValidSoFar, so-far-none}
 use Rattle.fields.specs.declared.Head.{Head}
 use Rattle.fields.specs.declared.Cell.{Cell}
 use Rattle.listing.specs.Layout.{head, cells, cell}
 use Rattle.book.specs.Layout.{Sized, entryAt, bookSize, wordsOf}
-use Rattle.book.specs.Check.{entryRight, bookRight}
-use Rattle.book.specs.Sound.{Fitted, Room, All}
+use Rattle.book.specs.Check.{entryValid, bookValid}
+use Rattle.book.specs.Sound.{Fitted, CellInBook, All}
 use Rattle.book.specs.declared.Shape.{Shape}
 use Rattle.book.proofs.Places.{next-entry, entry-before}
-use Rattle.book.proofs.Parts.{part-stop, part-more, part-clean}
-use Rattle.book.proofs.Right.{right-entry}
-use Rattle.book.proofs.Sound.{fitted-room, words-sized, words-right}
+use Rattle.book.proofs.Parts.{part-stop, part-more, part-so-far}
+use Rattle.book.proofs.Valid.{valid-entry}
+use Rattle.book.proofs.Sound.{fitted-cell, words-sized, words-valid}
 
 module _ {s : Shape} {l b : List ℕ} {h : Head} {end : ℕ} (f : Fitted s l b) (same : h ≡ head l) (last : end ≡ bookSize s (cells l)) where
   -- before the first cell
   first : s .head ≡ entryAt s 0
   first = omega (arith, mul-zero (s .entry))
 
-  pub cells-begin : Passed (bookRight s l b) (s .head) end (entryAt s 0)
+  pub cells-begin : Passed (bookValid s l b) (s .head) end (entryAt s 0)
   cells-begin = rw (← first) passed-none
 
-  pub cells-begin-clean : Clean (bookRight s l b) (s .head) end (entryAt s 0) true
-  cells-begin-clean = rw (← first) clean-none
+  pub cells-begin-so-far : ValidSoFar (bookValid s l b) (s .head) end (entryAt s 0) true
+  cells-begin-so-far = rw (← first) so-far-none
 
   -- cell i, with the words w that were read: it has as many as a cell has, whatever cell they are tested by
   pub cell-sized : (i : ℕ) (w : List ℕ) → i < cells l → w ≡ wordsOf s b i → Sized (length w)
-  cell-sized i w lt part = rw part (words-right s b i (fitted-room s l b f i lt))
+  cell-sized i w lt part = rw part (words-valid s b i (fitted-cell s l b f i lt))
 
   -- and with the cell c
   module _ (i : ℕ) (c : Cell) (w : List ℕ) (lt : i < cells l) (own : c ≡ cell l i) (part : w ≡ wordsOf s b i) where
-    cell-room : Room s b i
-    cell-room = fitted-room s l b f i lt
+    cell-in-book : CellInBook s b i
+    cell-in-book = fitted-cell s l b f i lt
 
     within : entryAt s i + s .entry ≤ end
     within = omega (arith, entry-before s i (cells l) lt)
 
     -- the search of its own words found j
-    module _ (j : ℕ) (p : Passed (bookRight s l b) (s .head) end (entryAt s i)) (e : j ≡ firstWrong (entryRight h c w) 0 (length w)) where
-      found : j ≡ firstWrong (entryRight (head l) (cell l i) (wordsOf s b i)) 0 (s .entry)
-      found = rw (same, own, part, words-sized s b i cell-room) at e
+    module _ (j : ℕ) (p : Passed (bookValid s l b) (s .head) end (entryAt s i)) (e : j ≡ firstInvalid (entryValid h c w) 0 (length w)) where
+      found : j ≡ firstInvalid (entryValid (head l) (cell l i) (wordsOf s b i)) 0 (s .entry)
+      found = rw (same, own, part, words-sized s b i cell-in-book) at e
 
-      pub cell-stop : j < s .entry → entryAt s i + j ≡ firstWrong (bookRight s l b) (s .head) end
-      cell-stop = part-stop (bookRight s l b) (s .head) end (entryRight (head l) (cell l i) (wordsOf s b i)) (s .entry) within (right-entry s l b i) j p found (entryAt s i + j) refl
+      pub cell-stop : j < s .entry → entryAt s i + j ≡ firstInvalid (bookValid s l b) (s .head) end
+      cell-stop = part-stop (bookValid s l b) (s .head) end (entryValid (head l) (cell l i) (wordsOf s b i)) (s .entry) within (valid-entry s l b i) j p found (entryAt s i + j) refl
 
-      pub cell-more : s .entry ≤ j → Passed (bookRight s l b) (s .head) end (entryAt s (i + 1))
-      cell-more = part-more (bookRight s l b) (s .head) end (entryRight (head l) (cell l i) (wordsOf s b i)) (s .entry) within (right-entry s l b i) j p found (entryAt s (i + 1)) (sym (next-entry s i))
+      pub cell-more : s .entry ≤ j → Passed (bookValid s l b) (s .head) end (entryAt s (i + 1))
+      cell-more =
+          part-more (bookValid s l b) (s .head) end (entryValid (head l) (cell l i) (wordsOf s b i)) (s .entry) within (valid-entry s l b i) j p found (entryAt s (i + 1)) (sym (next-entry s i))
 
     -- its words were tested together, by `good`
-    pub cell-clean : (clean good : Bool) → Clean (bookRight s l b) (s .head) end (entryAt s i) clean → (good ≡ true → All (entryRight h c w) (length w)) → Clean (bookRight s l b) (s .head) end (entryAt s (i + 1)) (clean && good)
-    cell-clean clean good p all =
-        part-clean (bookRight s l b) (s .head) end (entryRight (head l) (cell l i) (wordsOf s b i)) (s .entry) within (right-entry s l b i) clean good (entryAt s (i + 1)) (sym (next-entry s i)) p
-        (λ t. rw (same, own, part, words-sized s b i cell-room) at (all t))
+    pub cell-so-far : (valid good : Bool) → ValidSoFar (bookValid s l b) (s .head) end (entryAt s i) valid → (good ≡ true → All (entryValid h c w) (length w)) →
+        ValidSoFar (bookValid s l b) (s .head) end (entryAt s (i + 1)) (valid && good)
+    cell-so-far valid good p all =
+        part-so-far (bookValid s l b) (s .head) end (entryValid (head l) (cell l i) (wordsOf s b i)) (s .entry) within (valid-entry s l b i) valid good (entryAt s (i + 1)) (sym (next-entry s i)) p
+        (λ t. rw (same, own, part, words-sized s b i cell-in-book) at (all t))

@@ -1,4 +1,4 @@
--- Words that are put together: they give their fields back, and they are right. Assumes nothing.
+-- Words that are put together: they give their fields back, and they are valid. Assumes nothing.
 use mathlib.Core.Path.{_≡_, refl, ap, _∙_}
 use mathlib.Core.Bool.{Bool, true, false, cond}
 use Prim.Native.Nat.{ℕ, zero-le, _+_, _*_, _^_, _≤_, _<_}
@@ -7,14 +7,14 @@ use lib.Dec.{eqb}
 use borrow.Author.Tests.{le-leb, eq-eqb}
 use Rattle.words.specs.Bits.{bits, within, isKind, wordOf}
 use Rattle.words.proofs.Fields.{field-high, field-low, field-own, field-above, word-kind, word-bits}
-use Rattle.book.specs.Layout.{yearKind, planKind, oxidisedKind, burnedKind, number, withdrawnOf, planOf, planWord, oxidisedWord, burnedWord}
+use Rattle.book.specs.Layout.{yearKind, planKind, oxidisedKind, burnedKind, payload, withdrawnOf, planOf, planWord, oxidisedWord, burnedWord}
 use Rattle.book.specs.Check.{isYearWord, isPlanWord, isOxidisedWord, isBurnedWord}
 
 -- ---- fields
 
 -- a number of 28 bits
-pub number-of : (kind n : ℕ) → n < 2 ^ 28 → number (wordOf kind n) ≡ n
-number-of kind n h = word-bits kind n 27 0 (omega arith) (omega arith) ∙ field-own n 28 h
+pub payload-of : (kind n : ℕ) → n < 2 ^ 28 → payload (wordOf kind n) ≡ n
+payload-of kind n h = word-bits kind n 27 0 (omega arith) (omega arith) ∙ field-own n 28 h
 
 pub kind-of : (kind payload : ℕ) → kind < 16 → payload < 2 ^ 28 → isKind kind (wordOf kind payload) ≡ true
 unfolding isKind
@@ -45,25 +45,25 @@ module _ (f : Bool) (y : ℕ) (h : y < 2 ^ 8) where
   zero-bits : bits (planWord f y) 27 9 ≡ 0
   zero-bits = word-bits planKind (cond f 1 0 * 2 ^ 8 + y) 27 9 (omega arith) (omega arith) ∙ field-above _ 9 19 payload-small
 
--- ---- right words
+-- ---- valid words
 
 within-is : (most x : ℕ) → x ≤ most → within 0 most x ≡ true
 unfolding within
 within-is most x h = rw (le-leb 0 x zero-le, le-leb x most h)
 
-pub year-right : (horizon t : ℕ) → t ≤ horizon → horizon < 2 ^ 28 → isYearWord horizon (wordOf yearKind t) ≡ true
+pub year-valid : (horizon t : ℕ) → t ≤ horizon → horizon < 2 ^ 28 → isYearWord horizon (wordOf yearKind t) ≡ true
 unfolding isYearWord
-year-right horizon t h k = rw (kind-of yearKind t (omega arith) (omega arith), number-of yearKind t (omega arith), within-is horizon t h)
+year-valid horizon t h k = rw (kind-of yearKind t (omega arith) (omega arith), payload-of yearKind t (omega arith), within-is horizon t h)
 
-pub plan-right : (horizon : ℕ) (f : Bool) (y : ℕ) → y ≤ horizon → horizon < 2 ^ 8 → isPlanWord horizon (planWord f y) ≡ true
+pub plan-valid : (horizon : ℕ) (f : Bool) (y : ℕ) → y ≤ horizon → horizon < 2 ^ 8 → isPlanWord horizon (planWord f y) ≡ true
 unfolding isPlanWord
-plan-right horizon f y h k =
+plan-valid horizon f y h k =
     let s : y < 2 ^ 8 = omega arith in
     rw (kind-of planKind (cond f 1 0 * 2 ^ 8 + y) (omega arith) (omega (arith, payload-small f y s)), zero-bits f y s, plan-of f y s, within-is horizon y h)
 
-pub oxidised-right : (mm : ℕ) → mm < 2 ^ 28 → isOxidisedWord (oxidisedWord mm) ≡ true
-oxidised-right mm h = kind-of oxidisedKind mm (omega arith) h
+pub oxidised-valid : (mm : ℕ) → mm < 2 ^ 28 → isOxidisedWord (oxidisedWord mm) ≡ true
+oxidised-valid mm h = kind-of oxidisedKind mm (omega arith) h
 
-pub burned-right : (most o b : ℕ) → o + b ≤ most → most < 2 ^ 28 → isBurnedWord most (oxidisedWord o) (burnedWord b) ≡ true
+pub burned-valid : (most o b : ℕ) → o + b ≤ most → most < 2 ^ 28 → isBurnedWord most (oxidisedWord o) (burnedWord b) ≡ true
 unfolding isBurnedWord
-burned-right most o b h k = rw (kind-of burnedKind b (omega arith) (omega arith), number-of oxidisedKind o (omega arith), number-of burnedKind b (omega arith), le-leb (o + b) most h)
+burned-valid most o b h k = rw (kind-of burnedKind b (omega arith) (omega arith), payload-of oxidisedKind o (omega arith), payload-of burnedKind b (omega arith), le-leb (o + b) most h)

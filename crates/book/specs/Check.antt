@@ -5,19 +5,19 @@ use mathlib.Core.List.{List}
 use lib.Dec.{leb, ltb, eqb}
 use lib.ListN.{getD, length}
 use Rattle.words.specs.Bits.{bits, within, isKind}
-use Rattle.words.specs.Answers.{Answer, accepted, need, every, after}
+use Rattle.words.specs.Answers.{Answer, accepted, need, needAll, after}
 use Rattle.words.specs.Refusals.{bookShort, bookWord}
 use Rattle.fields.specs.declared.Head.{Head}
 use Rattle.fields.specs.declared.Cell.{Cell}
 use Rattle.listing.specs.Layout.{head, cells, horizon, cell}
 use Rattle.listing.specs.Check.{checked}
 use Rattle.year.specs.Year.{mostLoss}
-use Rattle.book.specs.Layout.{yearKind, issuedKind, planKind, oxidisedKind, burnedKind, yearAt, bookSize, cellAt, offsetAt, number, planOf, wordsOf}
+use Rattle.book.specs.Layout.{yearKind, issuedKind, planKind, oxidisedKind, burnedKind, yearAt, bookSize, cellOfPlace, offsetOfPlace, payload, planOf, wordsOf}
 use Rattle.book.specs.declared.Shape.{Shape}
 
 -- word 0: kind 8, a year of 0 to the horizon
 unfoldable pub isYearWord : ℕ → ℕ → Bool
-isYearWord horizon w = isKind yearKind w && within 0 horizon (number w)
+isYearWord horizon w = isKind yearKind w && within 0 horizon (payload w)
 
 -- the other words of the head: kind 9; every number of tonnes is allowed
 abbrev pub isIssuedWord : ℕ → Bool
@@ -33,39 +33,39 @@ isOxidisedWord w = isKind oxidisedKind w
 
 -- kind 12: O, in the word before, and B add up to no more than can be lost; a bad sum counts here
 unfoldable pub isBurnedWord : ℕ → ℕ → ℕ → Bool
-isBurnedWord most before w = isKind burnedKind w && leb (number before + number w) most
+isBurnedWord most before w = isKind burnedKind w && leb (payload before + payload w) most
 
 -- the word at place k of the head
 unfoldable pub isHeadWord : ℕ → ℕ → ℕ → Bool
 isHeadWord horizon k w = cond (eqb k yearAt) (isYearWord horizon w) (isIssuedWord w)
 
-abbrev pub headRight : ℕ → List ℕ → ℕ → Bool
-headRight horizon b k = isHeadWord horizon k (getD b k 0)
+abbrev pub headValid : ℕ → List ℕ → ℕ → Bool
+headValid horizon b k = isHeadWord horizon k (getD b k 0)
 
 -- the word at offset j of a cell's own words w
-unfoldable pub entryRight : Head → Cell → List ℕ → ℕ → Bool
-entryRight h c w j =
+unfoldable pub entryValid : Head → Cell → List ℕ → ℕ → Bool
+entryValid h c w j =
     cond (eqb j 0) (isPlanWord (h .horizon) (getD w 0 0))
     (cond (eqb j 1) (isOxidisedWord (getD w 1 0))
     (isBurnedWord (mostLoss h c) (getD w 1 0) (getD w 2 0)))
 
 -- the word at place k of the book
-unfoldable pub bookRight : Shape → List ℕ → List ℕ → ℕ → Bool
-bookRight s l b k =
-    cond (ltb k (s .head)) (headRight (horizon l) b k)
-    (entryRight (head l) (cell l (cellAt s k)) (wordsOf s b (cellAt s k)) (offsetAt s k))
+unfoldable pub bookValid : Shape → List ℕ → List ℕ → ℕ → Bool
+bookValid s l b k =
+    cond (ltb k (s .head)) (headValid (horizon l) b k)
+    (entryValid (head l) (cell l (cellOfPlace s k)) (wordsOf s b (cellOfPlace s k)) (offsetOfPlace s k))
 
 -- number 6: a book too short for its cells
-unfoldable pub roomChecked : Shape → List ℕ → List ℕ → Answer
-roomChecked s l b = need (leb (bookSize s (cells l)) (length b)) bookShort (length b) (accepted 0)
+unfoldable pub capacityChecked : Shape → List ℕ → List ℕ → Answer
+capacityChecked s l b = need (leb (bookSize s (cells l)) (length b)) bookShort (length b) (accepted 0)
 
--- numbers 1 to 6: a right listing, and room for its book
+-- numbers 1 to 6: a valid listing, and space for its book
 unfoldable pub fitted : Shape → List ℕ → List ℕ → Answer
-fitted s l b = after (checked l) (roomChecked s l b)
+fitted s l b = after (checked l) (capacityChecked s l b)
 
--- number 8: no wrong word in the book
+-- number 8: no invalid word in the book
 unfoldable pub bookChecked : Shape → List ℕ → List ℕ → Answer
-bookChecked s l b = every bookWord (bookRight s l b) 0 (bookSize s (cells l)) (accepted 0)
+bookChecked s l b = needAll bookWord (bookValid s l b) 0 (bookSize s (cells l)) (accepted 0)
 
 -- numbers 1 to 6 and 8, with which every call on an open book but a closing begins: that one tests its lines before 8
 unfoldable pub admitted : Shape → List ℕ → List ℕ → Answer

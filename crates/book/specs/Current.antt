@@ -20,7 +20,7 @@ entryAt = layout.entryAt current
 abbrev pub bookSize : ℕ → ℕ
 bookSize = layout.bookSize current
 
--- what it says
+-- what is read from it
 abbrev pub issued : List ℕ → ℕ
 issued = layout.issued current
 
@@ -33,8 +33,8 @@ entry = layout.entry current
 abbrev pub kgTo : List ℕ → List ℕ → ℕ → ℕ
 kgTo = held.kgTo current
 
-abbrev pub Says : List ℕ → List ℕ → ℕ → ℕ → (ℕ → Entry) → Type 0
-Says = held.Says current
+abbrev pub Holds : List ℕ → List ℕ → ℕ → ℕ → (ℕ → Entry) → Type 0
+Holds = held.Holds current
 
 -- what is written
 abbrev pub withIssued : List ℕ → ℕ → List ℕ
@@ -63,8 +63,8 @@ admitted = check.admitted current
 abbrev pub Fitted : List ℕ → List ℕ → Type 0
 Fitted = sound.Fitted current
 
-abbrev pub Room : List ℕ → ℕ → Type 0
-Room = sound.Room current
+abbrev pub CellInBook : List ℕ → ℕ → Type 0
+CellInBook = sound.CellInBook current
 
 abbrev pub Sound : List ℕ → List ℕ → Type 0
 Sound = sound.Sound current

@@ -1,4 +1,4 @@
--- What a book of any shape holds for a listing l, once entries were written, and what it says.
+-- What a book of any shape holds for a listing l, once entries were written, and what is read from it.
 use Prim.Native.Nat.{ℕ, _<_}
 use mathlib.Core.Path.{_≡_}
 use mathlib.Core.Bool.{true}
@@ -23,8 +23,8 @@ heldAt s e i = heldWords (s .entry) (e i)
 unfoldable pub newBook : Shape → List ℕ → List ℕ → ℕ → ℕ → (ℕ → Entry) → List ℕ
 newBook s l b t n e = withIssued s (withYear (filled (s .entry) b (s .head) (heldAt s e) (cells l)) t) n
 
--- book b is accepted, and it says: year t, n tonnes issued, and entry e i of each cell
-pub record Says (s : Shape) (l b : List ℕ) (t n : ℕ) (e : ℕ → Entry) : Type 0 where
+-- book b is accepted, and it holds year t, n tonnes issued, and entry e i of each cell
+pub record Holds (s : Shape) (l b : List ℕ) (t n : ℕ) (e : ℕ → Entry) : Type 0 where
   pub admits : admitted s l b .done ≡ true
   pub year-is : year b ≡ t
   pub issued-is : issued s b ≡ n

@@ -1,4 +1,4 @@
--- Document 01, "Book and calls": where the words of a book b stand, and what they say. Check.antt goes through them place by place, and
+-- Document 01, "Book and calls": where the words of a book b are, and what they hold. Check.antt goes through them place by place, and
 -- names the zero bits of kind 10.
 use Prim.Native.Nat.{ℕ, zero, suc, _+_, _-_, _*_, _/_, _%_, _^_, _≤_}
 use mathlib.Core.Bool.{Bool, cond}
@@ -30,11 +30,11 @@ abbrev pub bookSize : Shape → ℕ → ℕ
 bookSize = entryAt
 
 -- the cell that has the word at place k, behind the head, and the word's offset in the cell
-abbrev pub cellAt : Shape → ℕ → ℕ
-cellAt s k = (k - s .head) / s .entry
+abbrev pub cellOfPlace : Shape → ℕ → ℕ
+cellOfPlace s k = (k - s .head) / s .entry
 
-abbrev pub offsetAt : Shape → ℕ → ℕ
-offsetAt s k = (k - s .head) % s .entry
+abbrev pub offsetOfPlace : Shape → ℕ → ℕ
+offsetOfPlace s k = (k - s .head) % s .entry
 
 -- the words of a cell in the lines
 abbrev pub lineWords : ℕ
@@ -68,16 +68,16 @@ burnedLineKind = 14
 abbrev pub kgLineKind : ℕ
 kgLineKind = 15
 
--- ---- what the words say
+-- ---- what the words hold
 
 -- the number in bits 27–0
-abbrev pub number : ℕ → ℕ
-number w = bits w 27 0
+abbrev pub payload : ℕ → ℕ
+payload w = bits w 27 0
 
 -- the number in bits 27–0 of n words from place `from` on, high 28 bits first
 unfoldable pub joined : List ℕ → ℕ → ℕ → ℕ
 joined b from zero = 0
-joined b from (suc n) = joined b from n * 2 ^ 28 + number (getD b (from + n) 0)
+joined b from (suc n) = joined b from n * 2 ^ 28 + payload (getD b (from + n) 0)
 
 -- word 0, kind 8: the current year; the head's other words, kind 9: tonnes issued
 abbrev pub yearAt : ℕ
@@ -108,8 +108,8 @@ entryOf w =
     record {
       withdrawn = withdrawnOf (getD w 0 0);
       plan = planOf (getD w 0 0);
-      oxidised = number (getD w 1 0);
-      burned = number (getD w 2 0);
+      oxidised = payload (getD w 1 0);
+      burned = payload (getD w 2 0);
     }
 
 -- the words of cell i, and its entry
@@ -155,7 +155,7 @@ linesOf s = wordOf oxidisedLineKind (s .oxidised) ∷ wordOf burnedLineKind (s .
 
 -- cell i's lines are the numbers that a closing left for it in the lines buffer x
 abbrev pub lineAt : ℕ → List ℕ → ℕ → ℕ
-lineAt j x i = number (getD x (lineWords * i + j) 0)
+lineAt j x i = payload (getD x (lineWords * i + j) 0)
 
 abbrev pub oxidisedLine : List ℕ → ℕ → ℕ
 oxidisedLine = lineAt 0

@@ -12,36 +12,36 @@ use Rattle.year.specs.Year.{mostLoss}
 use Rattle.year.specs.Fit.{Fit}
 use Rattle.year.specs.declared.Entry.{Entry}
 use Rattle.book.specs.Layout.{Sized, Shaped, entryAt, bookSize, issuedWords, year, issued, entryOf, wordsOf, entry}
-use Rattle.book.specs.Check.{headRight, entryRight}
+use Rattle.book.specs.Check.{headValid, entryValid}
 use Rattle.book.specs.declared.Shape.{Shape}
 
--- an accepted listing, and room for its book
+-- an accepted listing, and space for its book
 pub record Fitted (s : Shape) (l b : List ℕ) : Type 0 where
   pub shaped : Shaped s
   pub accepted : Accepted l
-  pub room : bookSize s (cells l) ≤ length b
+  pub capacity : bookSize s (cells l) ≤ length b
 
--- room for the words of cell i
-pub record Room (s : Shape) (b : List ℕ) (i : ℕ) : Type 0 where
+-- space for the words of cell i
+pub record CellInBook (s : Shape) (b : List ℕ) (i : ℕ) : Type 0 where
   pub shaped : Shaped s
   pub in-book : entryAt s i + s .entry ≤ length b
   pub small : i < 2 ^ 32
 
 -- ---- words
 
--- all before place n are right
-pub record All (right : ℕ → Bool) (n : ℕ) : Type 0 where
-  pub each : (k : ℕ) → k < n → right k ≡ true
+-- all before place n are valid
+pub record All (valid : ℕ → Bool) (n : ℕ) : Type 0 where
+  pub each : (k : ℕ) → k < n → valid k ≡ true
 
 -- all words of the book
-pub record Right (s : Shape) (l b : List ℕ) : Type 0 where
-  pub head-words : All (headRight (horizon l) b) (s .head)
-  pub entry-words : (i : ℕ) → i < cells l → All (entryRight (head l) (cell l i) (wordsOf s b i)) (s .entry)
+pub record WordsValid (s : Shape) (l b : List ℕ) : Type 0 where
+  pub head-words : All (headValid (horizon l) b) (s .head)
+  pub entry-words : (i : ℕ) → i < cells l → All (entryValid (head l) (cell l i) (wordsOf s b i)) (s .entry)
 
--- ---- what they say
+-- ---- what they hold
 
 -- an entry's figures, by the head and the cell of the listing
-pub record EntryRight (h : Head) (c : Cell) (e : Entry) : Type 0 where
+pub record EntryValid (h : Head) (c : Cell) (e : Entry) : Type 0 where
   pub plan : e .plan ≤ h .horizon
   pub most : e .oxidised + e .burned ≤ mostLoss h c
   pub lost : e .oxidised + e .burned ≤ c .entered
@@ -53,7 +53,7 @@ pub record Storable (e : Entry) : Type 0 where
   pub burned : e .burned < 2 ^ 28
 
 -- a cell's own words, by the head and the cell of the listing: its kg to date can be worked out from them
-pub record WordsRight (h : Head) (c : Cell) (w : List ℕ) : Type 0 where
+pub record CellWordsValid (h : Head) (c : Cell) (w : List ℕ) : Type 0 where
   pub sized : Sized (length w)
   pub fit : Fit h c (entryOf w .oxidised) (entryOf w .burned)
 
@@ -62,5 +62,5 @@ pub record Sound (s : Shape) (l b : List ℕ) : Type 0 where
   pub fitted : Fitted s l b
   pub year : year b ≤ horizon l
   pub issued : issued s b < 2 ^ (28 * issuedWords s)
-  pub entry-right : (i : ℕ) → i < cells l → EntryRight (head l) (cell l i) (entry s b i)
-  pub words-right : (i : ℕ) → i < cells l → WordsRight (head l) (cell l i) (wordsOf s b i)
+  pub entry-valid : (i : ℕ) → i < cells l → EntryValid (head l) (cell l i) (entry s b i)
+  pub words-valid : (i : ℕ) → i < cells l → CellWordsValid (head l) (cell l i) (wordsOf s b i)

@@ -1,18 +1,19 @@
-// The book: where its words stand and what they say, its check, and the refusals with which every
+// The book: where its words are and what they hold, its check, and the refusals with which every
 // call begins. Each takes the book's shape.
 ghost use mathlib.Core.Path.{_≡_};
 ghost use mathlib.Core.Bool.{true};
 ghost use Prim.Native.Nat.{_+_, _*_, _^_, _<_, _≤_};
 ghost use lib.ListN.{length, set};
 ghost use Rattle.words.specs.Bits.{wordOf};
-ghost use Rattle.words.specs.Search.{firstWrong};
+ghost use Rattle.words.specs.Search.{firstInvalid};
 ghost use Rattle.words.specs.Answers.{outcome};
 ghost use Rattle.listing.specs.Layout.{head, cells};
 ghost use Rattle.listing.specs.Accepted.{Accepted};
 ghost use Rattle.year.specs.Year.{kgOf};
-ghost use Rattle.book.specs.Layout.{Sized, Shaped, yearAt, issuedWords, entryAt, bookSize, joined, year, issued, entryOf, wordsOf, entry, withYear, stored, withIssued, planWord, withPlan, heldWords};
-ghost use Rattle.book.specs.Check.{isYearWord, isPlanWord, isBurnedWord, isHeadWord, headRight, entryRight, bookRight, roomChecked, fitted, bookChecked, admitted};
-ghost use Rattle.book.specs.Sound.{Fitted, Room, All, Storable, WordsRight};
+ghost use Rattle.book.specs.Layout.{Sized, Shaped, yearAt, issuedWords, entryAt, bookSize, joined, year, issued, entryOf, wordsOf, entry, withYear, stored};
+ghost use Rattle.book.specs.Layout.{withIssued, planWord, withPlan, heldWords};
+ghost use Rattle.book.specs.Check.{isYearWord, isPlanWord, isBurnedWord, isHeadWord, headValid, entryValid, bookValid, capacityChecked, fitted, bookChecked, admitted};
+ghost use Rattle.book.specs.Sound.{Fitted, CellInBook, All, Storable, CellWordsValid};
 use fields::Cell;
 use fields::Head;
 use words::BOOK_SHORT;
@@ -52,7 +53,7 @@ pub const BURNED_LINE_KIND: u32 = 14;
 
 pub const KG_LINE_KIND: u32 = 15;
 
-// Where the current year stands, and from where on the tonnes issued do.
+// Where the current year is, and from where on the tonnes issued do.
 const YEAR_AT: usize = 0;
 
 const ISSUED_AT: usize = 1;
@@ -67,7 +68,7 @@ pub fn entry_at(s: Shape, i: usize) -> usize
 
 // The words of cell `i`.
 pub fn words_of(s: Shape, book: &[u32], i: usize) -> &[u32]
-    requires { ⌜ Room s (now book) i ⌝ }
+    requires { ⌜ CellInBook s (now book) i ⌝ }
     ensures { λ r. ⌜ now r ≡ wordsOf s (now (book .entry)) i ⌝ }
 {
     let a = entry_at(s, i);
@@ -87,7 +88,7 @@ fn is_plan_word(w: u32, horizon: u32) -> bool
     words::is_kind(w, PLAN_KIND) & (bits(w, 27, 9) == 0) & words::between(w, 7, 0, 0, horizon)
 }
 
-// Whether a cell's word of mm burned is right, behind its word of mm oxidised: not more is lost than
+// Whether a cell's word of mm burned is valid, behind its word of mm oxidised: not more is lost than
 // `most`.
 fn is_burned_word(before: u32, w: u32, most: u32) -> bool
     ensures { λ r. ⌜ r ≡ isBurnedWord most before w ⌝ }
@@ -95,7 +96,7 @@ fn is_burned_word(before: u32, w: u32, most: u32) -> bool
     words::is_kind(w, BURNED_KIND) & (bits(before, 27, 0) + bits(w, 27, 0) <= most)
 }
 
-// Whether the word at `k` of the head is right.
+// Whether the word at `k` of the head is valid.
 fn is_head_word(w: u32, k: usize, horizon: u32) -> bool
     ensures { λ r. ⌜ r ≡ isHeadWord horizon k w ⌝ }
 {
@@ -105,10 +106,10 @@ fn is_head_word(w: u32, k: usize, horizon: u32) -> bool
     words::is_kind(w, ISSUED_KIND)
 }
 
-// The first word of a book's head that is not right; where there is none, the head's size.
-fn head_wrong(s: Shape, h: Head, book: &[u32]) -> usize
+// The first word of a book's head that is invalid; where there is none, the head's size.
+fn first_invalid_head_word(s: Shape, h: Head, book: &[u32]) -> usize
     requires { ⌜ s .head ≤ length (now book) ⌝ }
-    ensures { λ r. ⌜ r ≡ firstWrong (headRight (h .horizon) (now (book .entry))) 0 (s .head) ⌝ }
+    ensures { λ r. ⌜ r ≡ firstInvalid (headValid (h .horizon) (now (book .entry))) 0 (s .head) ⌝ }
 {
     let mut k: usize = 0;
     while k < s.head {
@@ -120,20 +121,20 @@ fn head_wrong(s: Shape, h: Head, book: &[u32]) -> usize
     k
 }
 
-// Whether all of a cell's own words are right: without a branch for each, since most are.
-fn entry_clean(h: Head, c: Cell, entry: &[u32]) -> bool
+// Whether all of a cell's own words are valid: without a branch for each, since most are.
+fn entry_valid(h: Head, c: Cell, entry: &[u32]) -> bool
     requires { ⌜ Sized (length (now entry)) ⌝ }
-    ensures { λ r. ⌜ (r ≡ true → All (entryRight h c (now (entry .entry))) (length (now (entry .entry)))) ⌝ }
+    ensures { λ r. ⌜ (r ≡ true → All (entryValid h c (now (entry .entry))) (length (now (entry .entry)))) ⌝ }
 {
     let plan = is_plan_word(entry[0], h.horizon);
     let oxidised = words::is_kind(entry[1], OXIDISED_KIND);
     plan & oxidised & is_burned_word(entry[1], entry[2], year::most_loss(h, c))
 }
 
-// The first of a cell's own words that is not right; where there is none, their number.
-fn entry_wrong(h: Head, c: Cell, entry: &[u32]) -> usize
+// The first of a cell's own words that is invalid; where there is none, their number.
+fn first_invalid_entry_word(h: Head, c: Cell, entry: &[u32]) -> usize
     requires { ⌜ Sized (length (now entry)) ⌝ }
-    ensures { λ r. ⌜ r ≡ firstWrong (entryRight h c (now (entry .entry))) 0 (length (now (entry .entry))) ⌝ }
+    ensures { λ r. ⌜ r ≡ firstInvalid (entryValid h c (now (entry .entry))) 0 (length (now (entry .entry))) ⌝ }
 {
     if !is_plan_word(entry[0], h.horizon) {
         return 0;
@@ -147,30 +148,30 @@ fn entry_wrong(h: Head, c: Cell, entry: &[u32]) -> usize
     entry.len()
 }
 
-// Whether the words of all cells are right, without a branch for each cell.
-fn cells_clean(s: Shape, listing: &[u32], h: Head, book: &[u32], end: usize) -> bool
+// Whether the words of all cells are valid, without a branch for each cell.
+fn cells_valid(s: Shape, listing: &[u32], h: Head, book: &[u32], end: usize) -> bool
     requires { ⌜ Fitted s (now listing) (now book) × (h ≡ head (now listing)) × (end ≡ bookSize s (cells (now listing))) ⌝ }
-    ensures { λ r. ⌜ (r ≡ true → end ≡ firstWrong (bookRight s (now (listing .entry)) (now (book .entry))) (s .head) end) ⌝ }
+    ensures { λ r. ⌜ (r ≡ true → end ≡ firstInvalid (bookValid s (now (listing .entry)) (now (book .entry))) (s .head) end) ⌝ }
 {
     let cells = h.cells as usize;
-    let mut clean = true;
+    let mut valid = true;
     let mut i: usize = 0;
     while i < cells {
-        clean = clean & entry_clean(h, listing::cell(listing, h, i), words_of(s, book, i));
+        valid = valid & entry_valid(h, listing::cell(listing, h, i), words_of(s, book, i));
         i += 1;
     }
-    clean
+    valid
 }
 
-// The first word of the cells that is not right; where there is none, `end`.
-fn cells_wrong(s: Shape, listing: &[u32], h: Head, book: &[u32], end: usize) -> usize
+// The first word of the cells that is invalid; where there is none, `end`.
+fn first_invalid_cell_word(s: Shape, listing: &[u32], h: Head, book: &[u32], end: usize) -> usize
     requires { ⌜ Fitted s (now listing) (now book) × (h ≡ head (now listing)) × (end ≡ bookSize s (cells (now listing))) ⌝ }
-    ensures { λ r. ⌜ r ≡ firstWrong (bookRight s (now (listing .entry)) (now (book .entry))) (s .head) end ⌝ }
+    ensures { λ r. ⌜ r ≡ firstInvalid (bookValid s (now (listing .entry)) (now (book .entry))) (s .head) end ⌝ }
 {
     let cells = h.cells as usize;
     let mut i: usize = 0;
     while i < cells {
-        let j = entry_wrong(h, listing::cell(listing, h, i), words_of(s, book, i));
+        let j = first_invalid_entry_word(h, listing::cell(listing, h, i), words_of(s, book, i));
         if j < s.entry {
             return entry_at(s, i) + j;
         }
@@ -179,25 +180,25 @@ fn cells_wrong(s: Shape, listing: &[u32], h: Head, book: &[u32], end: usize) -> 
     end
 }
 
-// The first word of a book that is not right; where there is none, `end`.
-fn first_wrong(s: Shape, listing: &[u32], h: Head, book: &[u32], end: usize) -> usize
+// The first word of a book that is invalid; where there is none, `end`.
+fn first_invalid_word(s: Shape, listing: &[u32], h: Head, book: &[u32], end: usize) -> usize
     requires { ⌜ Fitted s (now listing) (now book) × (h ≡ head (now listing)) × (end ≡ bookSize s (cells (now listing))) ⌝ }
-    ensures { λ r. ⌜ r ≡ firstWrong (bookRight s (now (listing .entry)) (now (book .entry))) 0 end ⌝ }
+    ensures { λ r. ⌜ r ≡ firstInvalid (bookValid s (now (listing .entry)) (now (book .entry))) 0 end ⌝ }
 {
-    let k = head_wrong(s, h, book);
+    let k = first_invalid_head_word(s, h, book);
     if k < s.head {
         return k;
     }
-    if cells_clean(s, listing, h, book, end) {
+    if cells_valid(s, listing, h, book, end) {
         return end;
     }
-    cells_wrong(s, listing, h, book, end)
+    first_invalid_cell_word(s, listing, h, book, end)
 }
 
-// Number 6, for a right listing.
-pub fn check_room(s: Shape, listing: &[u32], book: &[u32]) -> Outcome
+// Number 6, for a valid listing.
+pub fn check_capacity(s: Shape, listing: &[u32], book: &[u32]) -> Outcome
     requires { ⌜ Shaped s × Accepted (now listing) ⌝ }
-    ensures { λ r. ⌜ outcome r ≡ roomChecked s (now (listing .entry)) (now (book .entry)) ⌝ }
+    ensures { λ r. ⌜ outcome r ≡ capacityChecked s (now (listing .entry)) (now (book .entry)) ⌝ }
 {
     let size = entry_at(s, listing::head(listing).cells as usize);
     if book.len() < size {
@@ -206,25 +207,25 @@ pub fn check_room(s: Shape, listing: &[u32], book: &[u32]) -> Outcome
     Outcome::Done
 }
 
-// Numbers 1 to 6: a right listing, and room for its book.
+// Numbers 1 to 6: a valid listing, and space for its book.
 pub fn fits(s: Shape, listing: &[u32], book: &[u32]) -> Outcome
     requires { ⌜ Shaped s ⌝ }
     ensures { λ r. ⌜ outcome r ≡ fitted s (now (listing .entry)) (now (book .entry)) ⌝ }
 {
     match listing::check(listing) {
-        Outcome::Done => check_room(s, listing, book),
+        Outcome::Done => check_capacity(s, listing, book),
         Outcome::Refused(why) => Outcome::Refused(why),
     }
 }
 
-// Number 8, for a right listing and a book that has room.
+// Number 8, for a valid listing and a book that is long enough.
 pub fn check_book(s: Shape, listing: &[u32], book: &[u32]) -> Outcome
     requires { ⌜ Fitted s (now listing) (now book) ⌝ }
     ensures { λ r. ⌜ outcome r ≡ bookChecked s (now (listing .entry)) (now (book .entry)) ⌝ }
 {
     let h = listing::head(listing);
     let end = entry_at(s, h.cells as usize);
-    let at = first_wrong(s, listing, h, book, end);
+    let at = first_invalid_word(s, listing, h, book, end);
     if at < end {
         return refuse(BOOK_WORD, at);
     }
@@ -272,7 +273,7 @@ pub fn issued(s: Shape, book: &[u32]) -> u64
     joined(book, ISSUED_AT, s.head - ISSUED_AT)
 }
 
-// What a cell's own words say.
+// The entry that a cell's own words hold.
 pub fn entry_of(words: &[u32]) -> Entry
     requires { ⌜ 3 ≤ length (now words) ⌝ }
     ensures { λ r. ⌜ r ≡ entryOf (now (words .entry)) ⌝ }
@@ -285,9 +286,9 @@ pub fn entry_of(words: &[u32]) -> Entry
     }
 }
 
-// What the book says of cell `i`.
+// The entry that the book holds of cell `i`.
 pub fn entry(s: Shape, book: &[u32], i: usize) -> Entry
-    requires { ⌜ Room s (now book) i ⌝ }
+    requires { ⌜ CellInBook s (now book) i ⌝ }
     ensures { λ r. ⌜ r ≡ entry s (now (book .entry)) i ⌝ }
 {
     entry_of(words_of(s, book, i))
@@ -295,7 +296,7 @@ pub fn entry(s: Shape, book: &[u32], i: usize) -> Entry
 
 // The kg to date of a cell, from its own words.
 pub fn kg_of(h: Head, c: Cell, words: &[u32]) -> u32
-    requires { ⌜ WordsRight h c (now words) ⌝ }
+    requires { ⌜ CellWordsValid h c (now words) ⌝ }
     ensures { λ r. ⌜ r ≡ kgOf h c (entryOf (now (words .entry))) ⌝ }
 {
     let e = entry_of(words);
@@ -303,11 +304,11 @@ pub fn kg_of(h: Head, c: Cell, words: &[u32]) -> u32
 }
 
 // Writes the word of a kind at `at`.
-fn put_number(book: &mut [u32], at: usize, kind: u32, number: u32)
-    requires { ⌜ (at < length (now book)) × (kind < 16) × (number < 2 ^ 28) ⌝ }
-    ensures { λ _. ⌜ now (book .exit) ≡ set (now (book .entry)) at (wordOf kind number) ⌝ }
+fn put_payload(book: &mut [u32], at: usize, kind: u32, payload: u32)
+    requires { ⌜ (at < length (now book)) × (kind < 16) × (payload < 2 ^ 28) ⌝ }
+    ensures { λ _. ⌜ now (book .exit) ≡ set (now (book .entry)) at (wordOf kind payload) ⌝ }
 {
-    book[at] = words::word(kind, number);
+    book[at] = words::word(kind, payload);
 }
 
 // Writes a number into `n` words of a kind, from `from` on.
@@ -319,7 +320,7 @@ fn put_joined(book: &mut [u32], from: usize, n: usize, kind: u32, x: u64)
     let mut k = n;
     while 0 < k {
         k -= 1;
-        put_number(book, from + k, kind, (rest % 268_435_456) as u32);
+        put_payload(book, from + k, kind, (rest % 268_435_456) as u32);
         rest = rest / 268_435_456;
     }
 }
@@ -351,7 +352,7 @@ fn plan_word(withdrawn: bool, plan: u32) -> u32
 
 // Writes the mark and the plan year of an entry as those of cell `i`.
 pub fn put_plan(s: Shape, book: &mut [u32], i: usize, e: Entry)
-    requires { ⌜ Room s (now book) i × (e .plan < 2 ^ 8) ⌝ }
+    requires { ⌜ CellInBook s (now book) i × (e .plan < 2 ^ 8) ⌝ }
     ensures { λ _. ⌜ now (book .exit) ≡ withPlan s (now (book .entry)) i e ⌝ }
 {
     let at = entry_at(s, i);

@@ -1,2 +1,2 @@
 -- What the contracts of the exported calls cite.
-pub mod Sent
+pub mod Exported

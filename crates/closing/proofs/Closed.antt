@@ -7,18 +7,18 @@ use native.Mathlib.Omega.{arith}
 use lib.ListN.{length, getD}
 use Rattle.words.proofs.Blocks.{length-filled, filled-word}
 use Rattle.listing.specs.Layout.{head, cells, cell}
-use Rattle.book.specs.Current.{current, bookSize, issued, wordsOf, Says}
-use Rattle.book.specs.Layout.{yearKind, oxidisedLineKind, burnedLineKind, kgLineKind, lineWords, yearAt, number, year, linesOf, oxidisedLine, burnedLine, kgLine}
-use Rattle.book.specs.Sound.{Storable, EntryRight}
-use Rattle.book.proofs.Words.{number-of}
+use Rattle.book.specs.Current.{current, bookSize, issued, wordsOf, Holds}
+use Rattle.book.specs.Layout.{yearKind, oxidisedLineKind, burnedLineKind, kgLineKind, lineWords, yearAt, payload, year, linesOf, oxidisedLine, burnedLine, kgLine}
+use Rattle.book.specs.Sound.{Storable, EntryValid}
+use Rattle.book.proofs.Words.{payload-of}
 use Rattle.book.proofs.Numbers.{stored-same}
 use Rattle.book.proofs.Sound.{shaped}
 use Rattle.book.proofs.Entries.{year-by, words-stored, head-filled, words-filled}
-use Rattle.book.proofs.Says.{says, says-year, says-held}
+use Rattle.book.proofs.Holds.{holds, holds-year, holds-entries}
 use Rattle.closing.specs.Closing.{loss, closedEntry, closedWords, closedLines, bookAfter, linesAfter}
-use Rattle.closing.specs.Closable.{Timely, Closable}
-use Rattle.closing.proofs.Closable.{losing-right, losing-storable, timely-losing}
-use Rattle.closing.proofs.Turn.{closed-sized, lines-sized, timely-next}
+use Rattle.closing.specs.Closable.{NextYear, Closable}
+use Rattle.closing.proofs.Closable.{cell-year-valid, cell-year-storable, next-cell-year}
+use Rattle.closing.proofs.Loop.{closed-sized, lines-sized, next-year-is}
 
 -- ---- word by word
 
@@ -28,15 +28,16 @@ unfolding linesAfter
 line-word l b x i lt j h = rw zero-add at (filled-word lineWords x 0 (closedLines l b) (lines-sized l b) zero-le (cells l) i j lt h)
 
 -- the cells of the book, and its head, with that of another book that had the same head
-module _ (l b : List ℕ) (room : bookSize (cells l) ≤ length b) where
+module _ (l b : List ℕ) (capacity : bookSize (cells l) ≤ length b) where
   pub after-words : (i : ℕ) → i < cells l → wordsOf (bookAfter l b) i ≡ closedWords l b i
   unfolding bookAfter
   after-words i lt = words-stored current _ yearKind yearAt 1 _ i (omega arith) ∙ words-filled current b (closedWords l b) (closed-sized l b) (omega arith) (cells l) i lt
 
-  pub after-head : (l′ b′ : List ℕ) → bookSize (cells l′) ≤ length b′ → ((k : ℕ) → k < current .head → getD b k 0 ≡ getD b′ k 0) → (k : ℕ) → k < current .head → getD (bookAfter l b) k 0 ≡ getD (bookAfter l′ b′) k 0
+  pub after-head : (l′ b′ : List ℕ) → bookSize (cells l′) ≤ length b′ → ((k : ℕ) → k < current .head → getD b k 0 ≡ getD b′ k 0) → (k : ℕ) → k < current .head →
+      getD (bookAfter l b) k 0 ≡ getD (bookAfter l′ b′) k 0
   unfolding bookAfter
   after-head l′ b′ room′ same k lt =
-      let filled-length = length-filled (current .entry) b (current .head) (closedWords l b) (closed-sized l b) (omega arith) (cells l) room in
+      let filled-length = length-filled (current .entry) b (current .head) (closedWords l b) (closed-sized l b) (omega arith) (cells l) capacity in
       let filled-length′ = length-filled (current .entry) b′ (current .head) (closedWords l′ b′) (closed-sized l′ b′) (omega arith) (cells l′) room′ in
       rw (year-by current b b′ (omega arith) same)
       (stored-same yearKind yearAt 1 _ k _ _ (omega arith) (omega arith)
@@ -47,21 +48,21 @@ module _ (l b : List ℕ) (room : bookSize (cells l) ≤ length b) where
 
 -- ---- by what they say
 
-module _ (l b : List ℕ) (room : ℕ) (p : Closable l b room) where
-  timely : Timely l (head l) b (year b + 1)
-  timely = timely-next (p .sound) (p .ahead) refl refl
+module _ (l b : List ℕ) (capacity : ℕ) (p : Closable l b capacity) where
+  next-year : NextYear l (head l) b (year b + 1)
+  next-year = next-year-is (p .sound) (p .ahead) refl refl
 
-  -- the entry of cell i is right, and so fits its words
-  pub closed-right : (i : ℕ) → i < cells l → EntryRight (head l) (cell l i) (closedEntry l b i)
-  closed-right i lt = losing-right (timely-losing timely i lt)
+  -- the entry of cell i is valid, and so fits its words
+  pub closed-valid : (i : ℕ) → i < cells l → EntryValid (head l) (cell l i) (closedEntry l b i)
+  closed-valid i lt = cell-year-valid (next-cell-year next-year i lt)
 
   closed-storable : (i : ℕ) → i < cells l → Storable (closedEntry l b i)
-  closed-storable i lt = losing-storable (timely-losing timely i lt)
+  closed-storable i lt = cell-year-storable (next-cell-year next-year i lt)
 
   -- all words: the cells', then the year's
-  pub year-says : Says l (bookAfter l b) (year b + 1) (issued b) (closedEntry l b)
+  pub year-holds : Holds l (bookAfter l b) (year b + 1) (issued b) (closedEntry l b)
   unfolding bookAfter
-  year-says = says-year shaped (says-held shaped (says current l b (p .admits)) (closedEntry l b) closed-right) (year b + 1) (omega (arith, p .ahead))
+  year-holds = holds-year shaped (holds-entries shaped (holds current l b (p .admits)) (closedEntry l b) closed-valid) (year b + 1) (omega (arith, p .ahead))
 
   -- the lines of cell i
   module _ (x : List ℕ) (i : ℕ) (lt : i < cells l) where
@@ -72,7 +73,7 @@ module _ (l b : List ℕ) (room : ℕ) (p : Closable l b room) where
         let fits = closed-storable i lt in
         let o : loss l b i .oxidised < 2 ^ 28 = omega (arith, fits .oxidised) in
         let u : loss l b i .burned < 2 ^ 28 = omega (arith, fits .burned) in (
-          ap number (line-word l b x i lt 0 (omega arith)) ∙ number-of oxidisedLineKind (loss l b i .oxidised) o,
-          ap number (line-word l b x i lt 1 (omega arith)) ∙ number-of burnedLineKind (loss l b i .burned) u,
-          ap number (line-word l b x i lt 2 (omega arith)) ∙ number-of kgLineKind (loss l b i .kg) (omega (arith, p .fits i lt)),
+          ap payload (line-word l b x i lt 0 (omega arith)) ∙ payload-of oxidisedLineKind (loss l b i .oxidised) o,
+          ap payload (line-word l b x i lt 1 (omega arith)) ∙ payload-of burnedLineKind (loss l b i .burned) u,
+          ap payload (line-word l b x i lt 2 (omega arith)) ∙ payload-of kgLineKind (loss l b i .kg) (omega (arith, p .fits i lt)),
         )

@@ -1,4 +1,4 @@
 -- Laws of a closing.
 pub mod Closable
-pub mod Turn
+pub mod Loop
 pub mod Closed

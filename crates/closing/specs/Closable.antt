@@ -1,9 +1,9 @@
--- What the steps of a closing are asked for; proofs/Closable.antt makes it from the answers.
+-- What the steps of a closing require; proofs/Closable.antt makes it from the answers.
 use Prim.Native.Nat.{ℕ, _+_, _*_, _≤_, _<_}
 use mathlib.Core.Path.{_≡_}
 use mathlib.Core.Bool.{true}
 use mathlib.Core.List.{List}
-use Rattle.fields.specs.Right.{CellRight}
+use Rattle.fields.specs.Valid.{CellValid}
 use Rattle.fields.specs.declared.Head.{Head}
 use Rattle.fields.specs.declared.Cell.{Cell}
 use Rattle.listing.specs.Layout.{head, cells, strata, horizon}
@@ -11,19 +11,19 @@ use Rattle.listing.specs.Accepted.{Accepted}
 use Rattle.year.specs.declared.Entry.{Entry}
 use Rattle.book.specs.Current.{admitted, Sound}
 use Rattle.book.specs.Layout.{lineWords, year}
-use Rattle.book.specs.Sound.{EntryRight}
-use Rattle.closing.specs.Closing.{loss, mostNumber}
+use Rattle.book.specs.Sound.{EntryValid}
+use Rattle.closing.specs.Closing.{loss, mostPayload}
 
 -- a cell c with entry e can be worked out for year t; h is the listing's head
-pub record Losing (l : List ℕ) (h : Head) (c : Cell) (e : Entry) (t : ℕ) : Type 0 where
+pub record CellYear (l : List ℕ) (h : Head) (c : Cell) (e : Entry) (t : ℕ) : Type 0 where
   pub accepted : Accepted l
   pub head-is : h ≡ head l
-  pub cell-right : CellRight (strata l) (horizon l) c
-  pub entry-right : EntryRight (head l) c e
+  pub cell-valid : CellValid (strata l) (horizon l) c
+  pub entry-valid : EntryValid (head l) c e
   pub in-time : (1 ≤ t) × (t ≤ horizon l)
 
 -- an accepted book, and t the year after its current one
-pub record Timely (l : List ℕ) (h : Head) (b : List ℕ) (t : ℕ) : Type 0 where
+pub record NextYear (l : List ℕ) (h : Head) (b : List ℕ) (t : ℕ) : Type 0 where
   pub sound : Sound l b
   pub head-is : h ≡ head l
   pub next : t ≡ year b + 1
@@ -34,5 +34,5 @@ pub record Closable (l b : List ℕ) (size : ℕ) : Type 0 where
   pub admits : admitted l b .done ≡ true
   pub sound : Sound l b
   pub ahead : year b < horizon l
-  pub room : lineWords * cells l ≤ size
-  pub fits : (i : ℕ) → i < cells l → loss l b i .kg ≤ mostNumber
+  pub capacity : lineWords * cells l ≤ size
+  pub fits : (i : ℕ) → i < cells l → loss l b i .kg ≤ mostPayload

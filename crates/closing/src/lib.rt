@@ -7,12 +7,12 @@ ghost use Rattle.words.specs.Blocks.{filled};
 ghost use Rattle.words.specs.Answers.{outcome, after};
 ghost use Rattle.listing.specs.Layout.{head, cells, row, cell};
 ghost use Rattle.listing.specs.Accepted.{Accepted};
-ghost use Rattle.year.specs.Year.{rests, kgOf, yearLoss, grown};
+ghost use Rattle.year.specs.Year.{inactive, kgOf, yearLoss, afterLoss};
 ghost use Rattle.book.specs.Current.{current, bookChecked, Fitted, Sound};
 ghost use Rattle.book.specs.Layout.{lineWords, entryOf, heldWords, linesOf};
-ghost use Rattle.book.specs.Sound.{WordsRight};
-ghost use Rattle.closing.specs.Closing.{cellLoss, closedWords, bookAfter, linesAfter, linesChecked, mostNumber, yearChecked, closeAnswer};
-ghost use Rattle.closing.specs.Closable.{Losing, Timely, Closable};
+ghost use Rattle.book.specs.Sound.{CellWordsValid};
+ghost use Rattle.closing.specs.Closing.{cellLoss, closedWords, bookAfter, linesAfter, linesChecked, mostPayload, yearChecked, closeAnswer};
+ghost use Rattle.closing.specs.Closable.{CellYear, NextYear, Closable};
 use book::BOOK;
 use book::BURNED_LINE_KIND;
 use book::KG_LINE_KIND;
@@ -28,10 +28,10 @@ use words::word;
 use year::Entry;
 use year::Loss;
 
-// What a cell that does not rest loses in `year`, by its own entry and the row of its own stratum and
+// What an active cell loses in `year`, by its own entry and the row of its own stratum and
 // age. `before` is its kg to date.
 fn active_loss(listing: &[u32], h: Head, c: Cell, e: Entry, before: u32, year: u32) -> Loss
-    requires { ⌜ Losing (now listing) h c e year × (rests h c e year ≡ false) × (before ≡ kgOf h c e) ⌝ }
+    requires { ⌜ CellYear (now listing) h c e year × (inactive h c e year ≡ false) × (before ≡ kgOf h c e) ⌝ }
     ensures { λ s. ⌜ s ≡ yearLoss (head (now (listing .entry))) (row (now (listing .entry))) c e year ⌝ }
 {
     let age = year - e.plan + 1;
@@ -39,18 +39,18 @@ fn active_loss(listing: &[u32], h: Head, c: Cell, e: Entry, before: u32, year: u
     year::loss_of(h, c, r, e, before)
 }
 
-// What a cell loses in `year`, nothing where it rests. `before` is its kg to date.
+// What a cell loses in `year`, nothing where it is inactive. `before` is its kg to date.
 pub fn cell_loss(listing: &[u32], h: Head, c: Cell, e: Entry, before: u32, year: u32) -> Loss
-    requires { ⌜ Losing (now listing) h c e year × (before ≡ kgOf h c e) ⌝ }
+    requires { ⌜ CellYear (now listing) h c e year × (before ≡ kgOf h c e) ⌝ }
     ensures { λ s. ⌜ s ≡ yearLoss (head (now (listing .entry))) (row (now (listing .entry))) c e year ⌝ }
 {
-    if year::rests(h, c, e, year) {
+    if year::inactive(h, c, e, year) {
         return year::no_loss();
     }
     active_loss(listing, h, c, e, before, year)
 }
 
-// Number 9, for a right book. Number 14 comes after it, and is proved not to arise: no kg line is
+// Number 9, for a valid book. Number 14 comes after it, and is proved not to arise: no kg line is
 // above `mostLine` of year/specs/Year.antt.
 fn check_year(listing: &[u32], book: &[u32]) -> Outcome
     requires { ⌜ Sound (now listing) (now book) ⌝ }
@@ -63,18 +63,18 @@ fn check_year(listing: &[u32], book: &[u32]) -> Outcome
     Outcome::Done
 }
 
-// Number 7, for a right listing.
-fn check_lines(listing: &[u32], room: usize) -> Outcome
+// Number 7, for a valid listing.
+fn check_lines(listing: &[u32], capacity: usize) -> Outcome
     requires { ⌜ Accepted (now listing) ⌝ }
-    ensures { λ r. ⌜ outcome r ≡ linesChecked (now (listing .entry)) room ⌝ }
+    ensures { λ r. ⌜ outcome r ≡ linesChecked (now (listing .entry)) capacity ⌝ }
 {
-    if room < LINE_WORDS * listing::head(listing).cells as usize {
-        return refuse(LINES_SHORT, room);
+    if capacity < LINE_WORDS * listing::head(listing).cells as usize {
+        return refuse(LINES_SHORT, capacity);
     }
     Outcome::Done
 }
 
-// Numbers 8 and 9, for a right listing and a book that has room.
+// Numbers 8 and 9, for a valid listing and a book that is long enough.
 fn check_book_and_year(listing: &[u32], book: &[u32]) -> Outcome
     requires { ⌜ Fitted (now listing) (now book) ⌝ }
     ensures { λ r. ⌜ outcome r ≡ after (bookChecked (now (listing .entry)) (now (book .entry))) (yearChecked (now (listing .entry)) (now (book .entry))) ⌝ }
@@ -86,49 +86,50 @@ fn check_book_and_year(listing: &[u32], book: &[u32]) -> Outcome
 }
 
 // Numbers 7 to 9: the lines are tested before the book's words.
-fn check_close(listing: &[u32], book: &[u32], room: usize) -> Outcome
+fn check_close(listing: &[u32], book: &[u32], capacity: usize) -> Outcome
     requires { ⌜ Fitted (now listing) (now book) ⌝ }
-    ensures { λ r. ⌜ outcome r ≡ after (linesChecked (now (listing .entry)) room) (after (bookChecked (now (listing .entry)) (now (book .entry))) (yearChecked (now (listing .entry)) (now (book .entry)))) ⌝ }
+    ensures { λ r. ⌜ outcome r
+        ≡ after (linesChecked (now (listing .entry)) capacity) (after (bookChecked (now (listing .entry)) (now (book .entry))) (yearChecked (now (listing .entry)) (now (book .entry)))) ⌝ }
 {
-    match check_lines(listing, room) {
+    match check_lines(listing, capacity) {
         Outcome::Done => check_book_and_year(listing, book),
         Outcome::Refused(why) => Outcome::Refused(why),
     }
 }
 
-// Whether a year can be closed with a lines buffer of `room` words: this writes nothing.
-pub fn may_close(listing: &[u32], book: &[u32], room: usize) -> Outcome
-    ensures { λ r. ⌜ outcome r ≡ closeAnswer (now (listing .entry)) (now (book .entry)) room ⌝ }
+// Whether a year can be closed with a lines buffer of `capacity` words: this writes nothing.
+pub fn may_close(listing: &[u32], book: &[u32], capacity: usize) -> Outcome
+    ensures { λ r. ⌜ outcome r ≡ closeAnswer (now (listing .entry)) (now (book .entry)) capacity ⌝ }
 {
     match book::fits(BOOK, listing, book) {
-        Outcome::Done => check_close(listing, book, room),
+        Outcome::Done => check_close(listing, book, capacity),
         Outcome::Refused(why) => Outcome::Refused(why),
     }
 }
 
 // Closes cell `i`, whose own words are lent: adds the year's mm to its mm to date. The kg to date of a
-// cell that rests are not worked out.
+// cell that is inactive are not worked out.
 fn close_cell(entry: &mut [u32], listing: &[u32], h: Head, i: usize, year: u32) -> Loss
-    requires { ⌜ WordsRight h (cell (now listing) i) (now entry) × (i < cells (now listing)) × Losing (now listing) h (cell (now listing) i) (entryOf (now entry)) year ⌝ }
+    requires { ⌜ CellWordsValid h (cell (now listing) i) (now entry) × (i < cells (now listing)) × CellYear (now listing) h (cell (now listing) i) (entryOf (now entry)) year ⌝ }
     ensures { λ s. ⌜ s ≡ cellLoss (now (listing .entry)) year i (entryOf (now (entry .entry))) ⌝ }
-    ensures { λ _. ⌜ now (entry .exit) ≡ heldWords (length (now (entry .entry))) (grown (entryOf (now (entry .entry))) (cellLoss (now (listing .entry)) year i (entryOf (now (entry .entry))))) ⌝ }
+    ensures { λ _. ⌜ now (entry .exit) ≡ heldWords (length (now (entry .entry))) (afterLoss (entryOf (now (entry .entry))) (cellLoss (now (listing .entry)) year i (entryOf (now (entry .entry))))) ⌝ }
 {
     let e = book::entry_of(&entry[..]);
     let c = listing::cell(listing, h, i);
-    let resting = year::rests(h, c, e, year);
-    if resting {
+    let inactive = year::inactive(h, c, e, year);
+    if inactive {
         book::put_entry(entry, e);
         return year::no_loss();
     }
     let before = book::kg_of(h, c, &entry[..]);
     let s = active_loss(listing, h, c, e, before, year);
-    book::put_entry(entry, year::grown(e, s));
+    book::put_entry(entry, year::after_loss(e, s));
     s
 }
 
 // Writes a cell's three lines.
 fn put_lines(lines: &mut [u32], s: Loss)
-    requires { ⌜ (length (now lines) ≡ lineWords) × (s .oxidised ≤ mostNumber) × (s .burned ≤ mostNumber) × (s .kg ≤ mostNumber) ⌝ }
+    requires { ⌜ (length (now lines) ≡ lineWords) × (s .oxidised ≤ mostPayload) × (s .burned ≤ mostPayload) × (s .kg ≤ mostPayload) ⌝ }
     ensures { λ _. ⌜ now (lines .exit) ≡ linesOf s ⌝ }
 {
     lines[0] = word(OXIDISED_LINE_KIND, s.oxidised);
@@ -138,7 +139,7 @@ fn put_lines(lines: &mut [u32], s: Loss)
 
 // Closes every cell: its words in the book, and its lines.
 fn close_cells(listing: &[u32], h: Head, book: &mut [u32], lines: &mut [u32], year: u32)
-    requires { ⌜ Timely (now listing) h (now book) year × Closable (now listing) (now book) (length (now lines)) ⌝ }
+    requires { ⌜ NextYear (now listing) h (now book) year × Closable (now listing) (now book) (length (now lines)) ⌝ }
     ensures { λ _. ⌜ now (book .exit) ≡ filled (current .entry) (now (book .entry)) (current .head) (closedWords (now (listing .entry)) (now (book .entry))) (cells (now (listing .entry))) ⌝ }
     ensures { λ _. ⌜ now (lines .exit) ≡ linesAfter (now (listing .entry)) (now (book .entry)) (now (lines .entry)) ⌝ }
 {

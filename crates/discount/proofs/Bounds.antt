@@ -14,10 +14,10 @@ use Rattle.words.specs.Bits.{within}
 use Rattle.words.proofs.Answers.{and-left, and-right, within-most}
 use Rattle.sums.specs.Sums.{weighted, sum}
 use Rattle.sums.proofs.Meaning.{weighted-le, sum-le}
-use Rattle.discount.specs.Discount.{square, distance, lengthsRight, valuesRight, mostPools, largestValue, mostStock, mostSquares, Bounded}
+use Rattle.discount.specs.Discount.{square, distance, lengthsValid, valuesValid, mostPools, mostValue, mostStock, mostSquares, Bounded}
 
-pub lengths : (a b c d : ℕ) → lengthsRight a b c d ≡ true → (a ≡ b) × (a ≡ c) × (a ≡ d) × (a ≤ mostPools)
-unfolding lengthsRight
+pub lengths : (a b c d : ℕ) → lengthsValid a b c d ≡ true → (a ≡ b) × (a ≡ c) × (a ≡ d) × (a ≤ mostPools)
+unfolding lengthsValid
 lengths a b c d h =
     let h₁ = and-left (eqb a b && eqb a c && eqb a d) (within 1 mostPools a) h in
     let h₂ = and-left (eqb a b && eqb a c) (eqb a d) h₁ in (
@@ -28,17 +28,22 @@ lengths a b c d h =
     )
 
 -- four lists that pass the tests
-pub bounded : {a b c d : List ℕ} → lengthsRight (length a) (length b) (length c) (length d) ≡ true → valuesRight a ≡ true → valuesRight b ≡ true → valuesRight c ≡ true → valuesRight d ≡ true → Bounded a × Bounded b × Bounded c × Bounded d
+pub bounded : {a b c d : List ℕ} → lengthsValid (length a) (length b) (length c) (length d) ≡ true → valuesValid a ≡ true → valuesValid b ≡ true → valuesValid c ≡ true →
+    valuesValid d ≡ true → Bounded a × Bounded b × Bounded c × Bounded d
 bounded {a} {b} {c} {d} h ha hb hc hd =
-    let l = lengths (length a) (length b) (length c) (length d) h in
-    (record { few = omega arith; low = ha }, record { few = omega arith; low = hb }, record { few = omega arith; low = hc }, record { few = omega arith; low = hd })
+    let l = lengths (length a) (length b) (length c) (length d) h in (
+      record { length-at-most = omega arith; values-at-most = ha },
+      record { length-at-most = omega arith; values-at-most = hb },
+      record { length-at-most = omega arith; values-at-most = hc },
+      record { length-at-most = omega arith; values-at-most = hd },
+    )
 
 -- the squares of one list, and its sum
 pub squares-le : (v : List ℕ) → Bounded v → weighted v v ≤ mostSquares
-squares-le v b = omega (arith, weighted-le largestValue largestValue v v (b .low) (b .low), b .few)
+squares-le v b = omega (arith, weighted-le mostValue mostValue v v (b .values-at-most) (b .values-at-most), b .length-at-most)
 
 total-le : (v : List ℕ) → Bounded v → sum v ≤ mostStock
-total-le v b = omega (arith, sum-le largestValue v (b .low), b .few)
+total-le v b = omega (arith, sum-le mostValue v (b .values-at-most), b .length-at-most)
 
 -- and so the distance of two sums
 pub distance-le : (v w : List ℕ) → Bounded v → Bounded w → distance (sum v) (sum w) ≤ mostStock

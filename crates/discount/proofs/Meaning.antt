@@ -13,11 +13,11 @@ module _ (Q D : ℕ) where
   rounded-down h =
       let first : 100000000 * Q ≤ square (10000 * D) = omega arith in
       let g = greatest-is (notAbove Q D) 10000 (le-leb (100000000 * Q) (square (10000 * D)) first) in
-      record { within = g .within; reaches = leb-true _ _ (g .itself); above = λ m h₁ h₂. leb-false _ _ (g .above m h₁ h₂) }
+      record { within = g .within; at-least = leb-true _ _ (g .itself); above = λ m h₁ h₂. leb-false _ _ (g .above m h₁ h₂) }
 
   -- there is one such number
   no-greater : (n m : ℕ) → RoundedDown Q D n → RoundedDown Q D m → m ≤ n
-  no-greater n m r s = le-of-suc-le-suc (lt-of-not-le (λ (l : n < m). omega (arith, r .above m l (s .within), s .reaches)))
+  no-greater n m r s = le-of-suc-le-suc (lt-of-not-le (λ (l : n < m). omega (arith, r .above m l (s .within), s .at-least)))
 
   pub rounded-down-only : (n : ℕ) → Q ≤ D * D → RoundedDown Q D n → n ≡ roundedDown Q D
   rounded-down-only n h r = le-antisymm (no-greater _ n (rounded-down h) r) (no-greater n _ r (rounded-down h))
@@ -34,8 +34,8 @@ module _ (Q D : ℕ) where
   pub too-wide : (D ≡ 0 → ⊥) → D * D ≤ Q → 0 ≡ factor Q D
   unfolding factor
   too-wide d k =
-      let some : 0 < D = pos-of-ne-zero d in
-      let h : 9 * D * D < 400 * Q = omega (arith, mul-le-mul some some) in
+      let positive : 0 < D = pos-of-ne-zero d in
+      let h : 9 * D * D < 400 * Q = omega (arith, mul-le-mul positive positive) in
       rw (ne-eqb D 0 d, lt-leb (400 * Q) (9 * D * D) h, le-leb (D * D) Q k)
 
   pub between : (D ≡ 0 → ⊥) → 9 * D * D < 400 * Q → Q < D * D → roundedDown Q D ≡ factor Q D

@@ -26,12 +26,12 @@ step-above n r s h e =
     let twice : (r + n / r + 1) * r ≤ (2 * (s + 1)) * r = mul-le-mul-right r (omega arith) in
     omega (arith, product-le (s + 1) r)
 
-pub some-root : (n r : ℕ) → n < square r → 0 < r
-some-root n r h = pos-of-ne-zero (λ (z : r ≡ 0). omega (arith, ap (λ (x : ℕ). x * x) z))
+pub root-positive : (n r : ℕ) → n < square r → 0 < r
+root-positive n r h = pos-of-ne-zero (λ (z : r ≡ 0). omega (arith, ap (λ (x : ℕ). x * x) z))
 
 pub step-falls : (n r s : ℕ) → n < square r → s ≡ (r + n / r) / 2 → s < r
 step-falls n r s h e =
-    let less : n / r < r = div-lt-iff-lt-mul (some-root n r h) .1 h in
+    let less : n / r < r = div-lt-iff-lt-mul (root-positive n r h) .1 h in
     omega arith
 
 -- a step keeps to the bound of n, and to half of what it came from

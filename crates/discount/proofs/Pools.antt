@@ -14,27 +14,27 @@ use mir.Val.{Fits}
 use mir.Syntax.{w64}
 use borrow.Author.Tests.{leb-true, leb-false, le-leb}
 use borrow.Author.Needs.{needs}
-use Rattle.words.proofs.Answers.{and-left, and-right, said-yes, said-no}
+use Rattle.words.proofs.Answers.{and-left, and-right, flag-true, flag-false}
 use Rattle.sums.specs.Sums.{sum, allAtMost}
 use Rattle.sums.proofs.Steps.{Tested, tested-none, tested-more, tested-stop, tested-all}
-use Rattle.discount.specs.Discount.{lengthsRight, poolValid, largestValue, mostPools, Added}
+use Rattle.discount.specs.Discount.{lengthsValid, poolValid, mostValue, mostPools, StockSums}
 use Rattle.discount.proofs.Bounds.{lengths, bounded}
 
 -- ---- one list
 -- where no value is too large, the one at i is not
-tested-at : (v : List ℕ) (i : ℕ) → Tested largestValue v i → i < length v → allAtMost largestValue v ≡ true → getD v i 0 ≤ largestValue
-tested-at v i t h a = either (decLe (getD v i 0) largestValue)
+tested-at : (v : List ℕ) (i : ℕ) → Tested mostValue v i → i < length v → allAtMost mostValue v ≡ true → getD v i 0 ≤ mostValue
+tested-at v i t h a = either (decLe (getD v i 0) mostValue)
   where
-    either : Dec (getD v i 0 ≤ largestValue) → getD v i 0 ≤ largestValue
+    either : Dec (getD v i 0 ≤ mostValue) → getD v i 0 ≤ mostValue
     either (yes le) = le
     either (no f) = absurd (false≢true (tested-stop t h (lt-of-not-le f) ∙ a))
 
 -- the first i values add up to `total`, and with what is left that makes the whole
 record Totalled (v : List ℕ) (total i : ℕ) : Type 0 where
   whole : total + sum (drop i v) ≡ sum v
-  small : total ≤ i * largestValue
+  small : total ≤ i * mostValue
 
-totalled-more : (v : List ℕ) (total i : ℕ) → Totalled v total i → i < length v → getD v i 0 ≤ largestValue → Totalled v (total + getD v i 0) (i + 1)
+totalled-more : (v : List ℕ) (total i : ℕ) → Totalled v total i → i < length v → getD v i 0 ≤ mostValue → Totalled v (total + getD v i 0) (i + 1)
 unfolding sum
 totalled-more v total i t h le =
     let whole = t .whole in
@@ -48,35 +48,35 @@ totalled-all v total i t e = let whole = t .whole in omega (arith, ap (λ (k : �
 
 -- ---- the values of one pool
 record Pool (x y z w : ℕ) : Type 0 where
-  a : x ≤ largestValue
-  b : y ≤ largestValue
-  c : z ≤ largestValue
-  d : w ≤ largestValue
+  a : x ≤ mostValue
+  b : y ≤ mostValue
+  c : z ≤ mostValue
+  d : w ≤ mostValue
 
 pool : (x y z w : ℕ) → poolValid x y z w ≡ true → Pool x y z w
 unfolding poolValid
 pool x y z w h =
-    let small : ℕ → Bool = λ k. leb k largestValue in
+    let small : ℕ → Bool = λ k. leb k mostValue in
     let h₃ = and-left (small x && small y && small z) (small w) h in
     let h₂ = and-left (small x && small y) (small z) h₃ in
     record {
-      a = leb-true x largestValue (and-left (small x) (small y) h₂);
-      b = leb-true y largestValue (and-right (small x) (small y) h₂);
-      c = leb-true z largestValue (and-right (small x && small y) (small z) h₃);
-      d = leb-true w largestValue (and-right (small x && small y && small z) (small w) h);
+      a = leb-true x mostValue (and-left (small x) (small y) h₂);
+      b = leb-true y mostValue (and-right (small x) (small y) h₂);
+      c = leb-true z mostValue (and-right (small x && small y) (small z) h₃);
+      d = leb-true w mostValue (and-right (small x && small y && small z) (small w) h);
     }
 
 -- where the first three are not too large, the last is
-pool-last : (x y z w : ℕ) → poolValid x y z w ≡ false → x ≤ largestValue → y ≤ largestValue → z ≤ largestValue → largestValue < w
+pool-last : (x y z w : ℕ) → poolValid x y z w ≡ false → x ≤ mostValue → y ≤ mostValue → z ≤ mostValue → mostValue < w
 unfolding poolValid
-pool-last x y z w h hx hy hz = leb-false w largestValue (rw (le-leb x largestValue hx, le-leb y largestValue hy, le-leb z largestValue hz) at h)
+pool-last x y z w h hx hy hz = leb-false w mostValue (rw (le-leb x mostValue hx, le-leb y mostValue hy, le-leb z mostValue hz) at h)
 
 -- ---- the four lists
 pub record Passed (a b c d : List ℕ) (first second i : ℕ) : Type 0 where
-  in-a : Tested largestValue a i
-  in-b : Tested largestValue b i
-  in-c : Tested largestValue c i
-  in-d : Tested largestValue d i
+  in-a : Tested mostValue a i
+  in-b : Tested mostValue b i
+  in-c : Tested mostValue c i
+  in-d : Tested mostValue d i
   first-is : Totalled c first i
   second-is : Totalled d second i
 
@@ -85,7 +85,7 @@ passed-none =
     let none : (v : List ℕ) → Totalled v 0 0 = λ v. record { whole = omega arith; small = omega arith } in
     record { in-a = tested-none; in-b = tested-none; in-c = tested-none; in-d = tested-none; first-is = none _; second-is = none _ }
 
-module _ {a b c d : List ℕ} {first second i : ℕ} (p : Passed a b c d first second i) (l : lengthsRight (length a) (length b) (length c) (length d) ≡ true) where
+module _ {a b c d : List ℕ} {first second i : ℕ} (p : Passed a b c d first second i) (l : lengthsValid (length a) (length b) (length c) (length d) ≡ true) where
   all : (length a ≡ length b) × (length a ≡ length c) × (length a ≡ length d) × (length a ≤ mostPools)
   all = lengths (length a) (length b) (length c) (length d) l
 
@@ -102,7 +102,7 @@ module _ {a b c d : List ℕ} {first second i : ℕ} (p : Passed a b c d first s
         second-is = totalled-more d second i (p .second-is) (omega arith) (x .d);
       }
 
-  pub passed-stop : i < length a → poolValid (getD a i 0) (getD b i 0) (getD c i 0) (getD d i 0) ≡ false → Added a b c d false first second
+  pub passed-stop : i < length a → poolValid (getD a i 0) (getD b i 0) (getD c i 0) (getD d i 0) ≡ false → StockSums a b c d false first second
   passed-stop h v =
       let s = all in
       record {
@@ -118,13 +118,13 @@ module _ {a b c d : List ℕ} {first second i : ℕ} (p : Passed a b c d first s
         };
       }
 
-  pub passed-all : length a ≤ i → Added a b c d true first second
+  pub passed-all : length a ≤ i → StockSums a b c d true first second
   passed-all h =
       let s = all in
       let w = p .in-a .within in
-      let right = bounded l (sym (tested-all (p .in-a) h)) (sym (tested-all (p .in-b) (omega arith))) (sym (tested-all (p .in-c) (omega arith))) (sym (tested-all (p .in-d) (omega arith))) in
+      let valid = bounded l (sym (tested-all (p .in-a) h)) (sym (tested-all (p .in-b) (omega arith))) (sym (tested-all (p .in-c) (omega arith))) (sym (tested-all (p .in-d) (omega arith))) in
       record {
-        valid-gives = λ _. (right .0, right .1, right .2, right .3, totalled-all c first i (p .first-is) (omega arith), totalled-all d second i (p .second-is) (omega arith));
+        valid-gives = λ _. (valid .0, valid .1, valid .2, valid .3, totalled-all c first i (p .first-is) (omega arith), totalled-all d second i (p .second-is) (omega arith));
         refused-gives = λ e. absurd (false≢true (sym e));
       }
 
@@ -138,4 +138,4 @@ module _ {a b c d : List ℕ} {first second i : ℕ} (p : Passed a b c d first s
       (omega (arith, x .c), omega (arith, x .d))
 
 -- what the needs of the loop are found from
-pub ruleset pools = (needs, said-yes, said-no, passed-none, passed-more, passed-stop, passed-all)
+pub ruleset pools = (needs, flag-true, flag-false, passed-none, passed-more, passed-stop, passed-all)

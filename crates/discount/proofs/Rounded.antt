@@ -23,16 +23,16 @@ module _ (q d : ℕ) (h₁ : 0 < q) (h₂ : q < d * d) where
   abbrev quotient : ℕ
   quotient = (100000000 * q - 1) / (d * d)
 
-  some : 0 < d * d
-  some = omega arith
+  positive : 0 < d * d
+  positive = omega arith
 
   module _ (r : ℕ) (low : r * r ≤ quotient) (high : quotient < (r + 1) * (r + 1)) where
     -- r × d is below 10,000 × √q, by the squares, and (r + 1) × d is not
     below : r * r * (d * d) < 100000000 * q
-    below = let s : r * r * (d * d) ≤ 100000000 * q - 1 = le-div-iff-mul-le some .0 low in omega arith
+    below = let s : r * r * (d * d) ≤ 100000000 * q - 1 = le-div-iff-mul-le positive .0 low in omega arith
 
     not-below : 100000000 * q ≤ (r + 1) * (r + 1) * (d * d)
-    not-below = let s : 100000000 * q - 1 < (r + 1) * (r + 1) * (d * d) = div-lt-iff-lt-mul some .0 high in omega arith
+    not-below = let s : 100000000 * q - 1 < (r + 1) * (r + 1) * (d * d) = div-lt-iff-lt-mul positive .0 high in omega arith
 
     falls : (k : ℕ) → k ≤ r → square (k * d) ≤ r * r * (d * d)
     falls k h = let s : k * d ≤ r * d = mul-le-mul-right d h in omega (arith, mul-le-mul s s)
@@ -44,6 +44,6 @@ module _ (q d : ℕ) (h₁ : 0 < q) (h₂ : q < d * d) where
         rounded-down-only q d (9999 - r) (omega arith)
         (record {
           within = omega arith;
-          reaches = rw k (omega (arith, not-below));
+          at-least = rw k (omega (arith, not-below));
           above = λ m g₁ g₂. omega (arith, falls (10000 - m) (omega arith), below);
         })

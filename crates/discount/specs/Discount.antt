@@ -47,7 +47,7 @@ factor Q D =
 -- n is the greatest whole number up to 10,000 for which (10,000 − n) × D is at least 10,000 × √Q, said by the squares
 pub record RoundedDown (Q D n : ℕ) : Type 0 where
   pub within : n ≤ 10000
-  pub reaches : 100000000 * Q ≤ square ((10000 - n) * D)
+  pub at-least : 100000000 * Q ≤ square ((10000 - n) * D)
   pub above : (m : ℕ) → n < m → m ≤ 10000 → square ((10000 - m) * D) < 100000000 * Q
 
 -- in the last case the discount is such an n, and the only one; proofs/Meaning.antt proves it
@@ -61,39 +61,39 @@ pub record EveryDiscount : Type 0 where
 abbrev pub mostPools : ℕ
 mostPools = 5
 
-unfoldable pub lengthsRight : ℕ → ℕ → ℕ → ℕ → Bool
-lengthsRight a b c d = eqb a b && eqb a c && eqb a d && within 1 mostPools a
+unfoldable pub lengthsValid : ℕ → ℕ → ℕ → ℕ → Bool
+lengthsValid a b c d = eqb a b && eqb a c && eqb a d && within 1 mostPools a
 
 -- refusal 20: "a value above 20,000"
-abbrev pub largestValue : ℕ
-largestValue = 20000
+abbrev pub mostValue : ℕ
+mostValue = 20000
 
-abbrev pub valuesRight : List ℕ → Bool
-valuesRight values = allAtMost largestValue values
+abbrev pub valuesValid : List ℕ → Bool
+valuesValid values = allAtMost mostValue values
 
--- what the call answers for any four lists; lists 0 to 3 are tested in turn
+-- what the call answers for any four lists; lists 0 to 3 are tested one after the other
 unfoldable pub discount : List ℕ → List ℕ → List ℕ → List ℕ → Answer
 discount firstWidths secondWidths firstStocks secondStocks =
-    need (lengthsRight (length firstWidths) (length secondWidths) (length firstStocks) (length secondStocks)) listLengths 0
-    (need (valuesRight firstWidths) valueTooLarge 0
-    (need (valuesRight secondWidths) valueTooLarge 1
-    (need (valuesRight firstStocks) valueTooLarge 2
-    (need (valuesRight secondStocks) valueTooLarge 3
+    need (lengthsValid (length firstWidths) (length secondWidths) (length firstStocks) (length secondStocks)) listLengths 0
+    (need (valuesValid firstWidths) valueTooLarge 0
+    (need (valuesValid secondWidths) valueTooLarge 1
+    (need (valuesValid firstStocks) valueTooLarge 2
+    (need (valuesValid secondStocks) valueTooLarge 3
     (accepted (factor (squares firstWidths secondWidths) (distance (sum firstStocks) (sum secondStocks))))))))
 
 -- ---- cited by the contracts of private functions alone
 
 -- a list that is not refused
 pub record Bounded (values : List ℕ) : Type 0 where
-  pub few : length values ≤ mostPools
-  pub low : valuesRight values ≡ true
+  pub length-at-most : length values ≤ mostPools
+  pub values-at-most : valuesValid values ≡ true
 
 -- what the sum of such a list, and of its squares, is at most
 abbrev pub mostStock : ℕ
-mostStock = mostPools * largestValue
+mostStock = mostPools * mostValue
 
 abbrev pub mostSquares : ℕ
-mostSquares = mostPools * square largestValue
+mostSquares = mostPools * square mostValue
 
 -- what a root is taken of is below 10,000 squared
 abbrev pub rootLimit : ℕ
@@ -101,14 +101,14 @@ rootLimit = square 10000
 
 -- the values of one pool in the four lists
 unfoldable pub poolValid : ℕ → ℕ → ℕ → ℕ → Bool
-poolValid a b c d = leb a largestValue && leb b largestValue && leb c largestValue && leb d largestValue
+poolValid a b c d = leb a mostValue && leb b mostValue && leb c mostValue && leb d mostValue
 
 -- four lists of which one is refused by its values: the last, unless one before it is
 pub record TooLarge (a b c d : List ℕ) : Type 0 where
-  pub lengths : lengthsRight (length a) (length b) (length c) (length d) ≡ true
-  pub last : valuesRight a ≡ true → valuesRight b ≡ true → valuesRight c ≡ true → valuesRight d ≡ false
+  pub lengths : lengthsValid (length a) (length b) (length c) (length d) ≡ true
+  pub last : valuesValid a ≡ true → valuesValid b ≡ true → valuesValid c ≡ true → valuesValid d ≡ false
 
 -- four lists, with the sums of the last two where none is refused by its values
-pub record Added (a b c d : List ℕ) (valid : Bool) (first second : ℕ) : Type 0 where
+pub record StockSums (a b c d : List ℕ) (valid : Bool) (first second : ℕ) : Type 0 where
   pub valid-gives : valid ≡ true → Bounded a × Bounded b × Bounded c × Bounded d × (first ≡ sum c) × (second ≡ sum d)
   pub refused-gives : valid ≡ false → TooLarge a b c d

@@ -10,11 +10,11 @@ ghost use Prim.Native.Nat.{_+_, _*_, _/_, _<_, _≤_};
 ghost use lib.ListN.{length};
 ghost use Rattle.words.specs.Answers.{amount};
 ghost use Rattle.sums.specs.Sums.{weighted};
-ghost use Rattle.discount.specs.Discount.{discount, lengthsRight, poolValid, distance, factor, roundedDown, mostStock, mostSquares, rootLimit, Bounded, TooLarge, Added};
+ghost use Rattle.discount.specs.Discount.{discount, lengthsValid, poolValid, distance, factor, roundedDown, mostStock, mostSquares, rootLimit, Bounded, TooLarge, StockSums};
 
 const MOST_POOLS: usize = 5;
 
-const LARGEST: u32 = 20_000; // of a value, in tenths of t CO2e per ha
+const MOST_VALUE: u32 = 20_000; // of a value, in tenths of t CO2e per ha
 
 // The sums of two lists of stocks, where no value of the four lists is too large.
 struct Stocks {
@@ -24,8 +24,8 @@ struct Stocks {
 }
 
 // Whether four lists of these lengths have one value for each of one to five carbon pools.
-fn lengths_right(a: usize, b: usize, c: usize, d: usize) -> bool
-    ensures { λ r. ⌜ r ≡ lengthsRight a b c d ⌝ }
+fn lengths_valid(a: usize, b: usize, c: usize, d: usize) -> bool
+    ensures { λ r. ⌜ r ≡ lengthsValid a b c d ⌝ }
 {
     (a == b) & (a == c) & (a == d) & ((1 <= a) & (a <= MOST_POOLS))
 }
@@ -34,7 +34,7 @@ fn lengths_right(a: usize, b: usize, c: usize, d: usize) -> bool
 fn pool_valid(a: u32, b: u32, c: u32, d: u32) -> bool
     ensures { λ r. ⌜ r ≡ poolValid a b c d ⌝ }
 {
-    (a <= LARGEST) & (b <= LARGEST) & (c <= LARGEST) & (d <= LARGEST)
+    (a <= MOST_VALUE) & (b <= MOST_VALUE) & (c <= MOST_VALUE) & (d <= MOST_VALUE)
 }
 
 fn distance(x: u64, y: u64) -> u64
@@ -58,8 +58,8 @@ fn stock_sums(
     first_stocks: &[u32],
     second_stocks: &[u32],
 ) -> Stocks
-    requires { ⌜ lengthsRight (length (now «first_widths»)) (length (now «second_widths»)) (length (now «first_stocks»)) (length (now «second_stocks»)) ≡ true ⌝ }
-    ensures { λ r. ⌜ Added (now («first_widths» .entry)) (now («second_widths» .entry)) (now («first_stocks» .entry)) (now («second_stocks» .entry)) (r .valid) (r .first) (r .second) ⌝ }
+    requires { ⌜ lengthsValid (length (now «first_widths»)) (length (now «second_widths»)) (length (now «first_stocks»)) (length (now «second_stocks»)) ≡ true ⌝ }
+    ensures { λ r. ⌜ StockSums (now («first_widths» .entry)) (now («second_widths» .entry)) (now («first_stocks» .entry)) (now («second_stocks» .entry)) (r .valid) (r .first) (r .second) ⌝ }
 {
     let mut first: u64 = 0;
     let mut second: u64 = 0;
@@ -86,7 +86,7 @@ fn stock_sums(
 }
 
 // One step of Newton's towards the root of n, from any r above 0.
-fn nearer(n: u32, r: u32) -> u32
+fn newton_step(n: u32, r: u32) -> u32
     requires { ⌜ (n ≤ rootLimit) × (0 < r) × (r ≤ rootLimit) ⌝ }
     ensures { λ s. ⌜ s ≡ (r + n / r) / 2 ⌝ }
 {
@@ -100,9 +100,9 @@ fn root(n: u32) -> u32
     ensures { λ r. ⌜ (r * r ≤ n) × (n < (r + 1) * (r + 1)) ⌝ }
 {
     let middle = if n < 16_000_000 { 2_500 } else { 6_500 };
-    let mut r = nearer(n, nearer(n, nearer(n, middle)));
+    let mut r = newton_step(n, newton_step(n, newton_step(n, middle)));
     while (n as u64) < r as u64 * r as u64 {
-        r = nearer(n, r);
+        r = newton_step(n, r);
     }
     r
 }
@@ -142,13 +142,13 @@ fn refuse_value(
     requires { ⌜ TooLarge (now «first_widths») (now «second_widths») (now «first_stocks») (now «second_stocks») ⌝ }
     ensures { λ r. ⌜ amount r ≡ discount (now («first_widths» .entry)) (now («second_widths» .entry)) (now («first_stocks» .entry)) (now («second_stocks» .entry)) ⌝ }
 {
-    if !sums::all_at_most(LARGEST, first_widths) {
+    if !sums::all_at_most(MOST_VALUE, first_widths) {
         return refuse_amount(VALUE_TOO_LARGE, 0);
     }
-    if !sums::all_at_most(LARGEST, second_widths) {
+    if !sums::all_at_most(MOST_VALUE, second_widths) {
         return refuse_amount(VALUE_TOO_LARGE, 1);
     }
-    if !sums::all_at_most(LARGEST, first_stocks) {
+    if !sums::all_at_most(MOST_VALUE, first_stocks) {
         return refuse_amount(VALUE_TOO_LARGE, 2);
     }
     refuse_amount(VALUE_TOO_LARGE, 3)
@@ -164,7 +164,7 @@ pub fn discount(
 ) -> Amount
     ensures { λ r. ⌜ amount r ≡ discount (now («first_widths» .entry)) (now («second_widths» .entry)) (now («first_stocks» .entry)) (now («second_stocks» .entry)) ⌝ }
 {
-    if !lengths_right(
+    if !lengths_valid(
         first_widths.len(),
         second_widths.len(),
         first_stocks.len(),

@@ -1,3 +1,3 @@
 -- Laws that the crates above cite.
-pub mod Right
+pub mod Valid
 pub mod SameKind

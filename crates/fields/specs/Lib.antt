@@ -1,4 +1,4 @@
 -- What the contracts of fields, and of the crates above it, cite.
 pub mod Fields
 pub mod Words
-pub mod Right
+pub mod Valid

@@ -1,4 +1,4 @@
--- Document 01, "Project listing": which words are right, each by itself, and the order of terms.
+-- Document 01, "Project listing": which words are valid, each by itself, and the order of terms.
 use Prim.Native.Nat.{ℕ}
 use mathlib.Core.Bool.{Bool, _&&_, _||_}
 use lib.Dec.{ltb, eqb}

@@ -1,9 +1,9 @@
-// The words of a project's listing, each by itself: which are right, and what they say.
+// The words of a project's listing, each by itself: which are valid, and their fields.
 ghost use mathlib.Core.Path.{_≡_};
 ghost use Rattle.words.specs.Bits.{isKind};
 ghost use Rattle.fields.specs.Fields.{headOf, rowOf, cellOf, yearlyTerm};
 ghost use Rattle.fields.specs.Words.{isSizeWord, isFigureWord, isTableWord, isDepthWord, isAreaWord, isTermWord, isAbove};
-ghost use Rattle.fields.specs.Right.{termOrder};
+ghost use Rattle.fields.specs.Valid.{termOrder};
 use words::between;
 use words::bits;
 use words::is_kind;
@@ -34,7 +34,7 @@ const MOST_DENSITY: u32 = 2_400;
 // The highest term.
 const MOST_TERM: u32 = 8;
 
-// What is said of the project as a whole. The guard and the thickness, the least of peat, are in mm.
+// The figures of the project as a whole. The guard and the thickness, the least of peat, are in mm.
 pub struct Head {
     pub cells: u32,
     pub strata: u32,
@@ -46,14 +46,14 @@ pub struct Head {
     pub thickness: u32,
 }
 
-// What a stratum's table says for a year of age.
+// The figures of a stratum's table for a year of age.
 pub struct Row {
     pub drainage: u32,
     pub oxidation: u32,
     pub burning: u32,
 }
 
-// What is said of a cell.
+// The figures of a cell.
 pub struct Cell {
     pub stratum: u32,
     pub conversion: u32,
@@ -69,7 +69,7 @@ pub struct YearlyTerm {
     pub tonnes: i32,
 }
 
-// Whether w is right as word 0.
+// Whether w is valid as word 0.
 pub fn is_size_word(w: u32) -> bool
     ensures { λ r. ⌜ r ≡ isSizeWord w ⌝ }
 {
@@ -79,7 +79,7 @@ pub fn is_size_word(w: u32) -> bool
         & between(w, 7, 0, 1, MOST_HORIZON)
 }
 
-// Whether w is right as word 1.
+// Whether w is valid as word 1.
 pub fn is_figure_word(w: u32) -> bool
     ensures { λ r. ⌜ r ≡ isFigureWord w ⌝ }
 {
@@ -90,7 +90,7 @@ pub fn is_figure_word(w: u32) -> bool
         & between(w, 7, 0, 0, MOST_METHANE)
 }
 
-// Whether w is right as a word of a table.
+// Whether w is valid as a word of a table.
 pub fn is_table_word(w: u32) -> bool
     ensures { λ r. ⌜ r ≡ isTableWord w ⌝ }
 {
@@ -105,7 +105,7 @@ pub fn table_fault(w: u32) -> u32
     w ^ word(3, 0)
 }
 
-// Whether w is right as a cell's first word.
+// Whether w is valid as a cell's first word.
 pub fn is_depth_word(w: u32, strata: u32, horizon: u32) -> bool
     ensures { λ r. ⌜ r ≡ isDepthWord strata horizon w ⌝ }
 {
@@ -115,7 +115,7 @@ pub fn is_depth_word(w: u32, strata: u32, horizon: u32) -> bool
         & between(w, 15, 0, 0, MOST_DEPTH)
 }
 
-// Whether w is right as a cell's second word.
+// Whether w is valid as a cell's second word.
 pub fn is_area_word(w: u32) -> bool
     ensures { λ r. ⌜ r ≡ isAreaWord w ⌝ }
 {
@@ -125,7 +125,7 @@ pub fn is_area_word(w: u32) -> bool
         & between(w, 11, 0, 1, MOST_DENSITY)
 }
 
-// Whether w is right as a term.
+// Whether w is valid as a term.
 pub fn is_term_word(w: u32, horizon: u32) -> bool
     ensures { λ r. ⌜ r ≡ isTermWord horizon w ⌝ }
 {
@@ -148,7 +148,7 @@ pub fn is_above(before: u32, w: u32) -> bool
     term_order(before) < term_order(w)
 }
 
-// What words 0 and 1 say.
+// The figures of words 0 and 1.
 pub fn head_of(w: u32, v: u32) -> Head
     ensures { λ r. ⌜ r ≡ headOf w v ⌝ }
 {
@@ -164,7 +164,7 @@ pub fn head_of(w: u32, v: u32) -> Head
     }
 }
 
-// What a word of a table says.
+// The figures of a word of a table.
 pub fn row_of(w: u32) -> Row
     ensures { λ r. ⌜ r ≡ rowOf w ⌝ }
 {
@@ -175,7 +175,7 @@ pub fn row_of(w: u32) -> Row
     }
 }
 
-// What the two words of a cell say.
+// The figures of a cell's two words.
 pub fn cell_of(w: u32, v: u32) -> Cell
     ensures { λ r. ⌜ r ≡ cellOf w v ⌝ }
 {
@@ -188,7 +188,7 @@ pub fn cell_of(w: u32, v: u32) -> Cell
     }
 }
 
-// What a term's word says.
+// The figures of a term's word.
 pub fn term_of(w: u32) -> YearlyTerm
     ensures { λ r. ⌜ r ≡ yearlyTerm w ⌝ }
 {

@@ -1,4 +1,4 @@
--- The closings of an opened book come to the cells' own years, and a cell rests until its plan year. Assumes nothing.
+-- The closings of an opened book come to the cells' own years, and a cell is inactive until its plan year. Assumes nothing.
 use mathlib.Core.Path.{_≡_, refl, ap}
 use mathlib.Core.Bool.{true}
 use mathlib.Core.List.{List, [], _∷_}
@@ -11,7 +11,7 @@ use Rattle.words.proofs.Blocks.{filled-same}
 use Rattle.words.proofs.Signed.{by-test}
 use Rattle.words.proofs.Sums.{sum-same}
 use Rattle.listing.specs.Layout.{cells, horizon, cell}
-use Rattle.year.specs.Year.{unconverted, none}
+use Rattle.year.specs.Year.{unconverted, noLoss}
 use Rattle.year.specs.declared.Loss.{Loss}
 use Rattle.year.proofs.Laws.{unconverted-never, unconverted-before}
 use Rattle.book.specs.Current.{newBook, fitted}
@@ -20,7 +20,7 @@ use Rattle.years.specs.Years.{entriesAfter, lossIn}
 use Rattle.years.proofs.After.{unconverted-years}
 use Rattle.years.proofs.Held.{every-years}
 use Rattle.forecast.specs.Forecast.{yearKg, closedBook, outputAfter}
-use Rattle.forecast.specs.Running.{restingYears, ranOutput}
+use Rattle.forecast.specs.Running.{yearsBeforeConversion, ranOutput}
 
 -- ---- the years before a cell loses
 
@@ -28,20 +28,20 @@ module _ (l : List ℕ) (i : ℕ) where
   abbrev plan : ℕ
   plan = cell l i .conversion
 
-  resting : (t : ℕ) → t < restingYears plan (horizon l) → unconverted plan (t + 1) ≡ true
-  unfolding restingYears
-  resting t =
+  inactive : (t : ℕ) → t < yearsBeforeConversion plan (horizon l) → unconverted plan (t + 1) ≡ true
+  unfolding yearsBeforeConversion
+  inactive t =
       by-test (λ (n : ℕ). t < n → unconverted plan (t + 1) ≡ true) (eqb plan 0) (horizon l) (plan - 1)
       (λ q lt. unconverted-never plan (t + 1) (eqb-true plan 0 q))
       (λ q lt. unconverted-before plan (t + 1) (omega arith))
 
-  pub rests-no-loss : (t : ℕ) → t < restingYears plan (horizon l) → lossIn l i t ≡ none
-  rests-no-loss t lt = unconverted-years l i t (resting t lt)
+  pub inactive-no-loss : (t : ℕ) → t < yearsBeforeConversion plan (horizon l) → lossIn l i t ≡ noLoss
+  inactive-no-loss t lt = unconverted-years l i t (inactive t lt)
 
-  pub rests-opened : (t : ℕ) → t ≤ restingYears plan (horizon l) → entriesAfter l 0 i ≡ entriesAfter l t i
+  pub inactive-opened : (t : ℕ) → t ≤ yearsBeforeConversion plan (horizon l) → entriesAfter l 0 i ≡ entriesAfter l t i
   unfolding entriesAfter
-  rests-opened zero le = refl
-  rests-opened (suc t) le = rw (rests-no-loss t (omega arith), ← rests-opened t (omega arith))
+  inactive-opened zero le = refl
+  inactive-opened (suc t) le = rw (inactive-no-loss t (omega arith), ← inactive-opened t (omega arith))
 
 -- ---- all years
 

@@ -6,7 +6,7 @@ use lib.Dec.{leb}
 use lib.ListN.{length}
 use Rattle.words.specs.Answers.{Answer, accepted, need, after}
 use Rattle.words.specs.Blocks.{filled}
-use Rattle.words.specs.Left.{Left, settleBoth}
+use Rattle.words.specs.Effect.{Effect, commitBoth}
 use Rattle.words.specs.Refusals.{outputShort}
 use Rattle.words.specs.Sums.{sumBelow}
 use Rattle.listing.specs.Layout.{cells, horizon}
@@ -28,14 +28,14 @@ outputAfter l b x = filled 1 x 0 (λ t. yearKg l (closedFor l b t) ∷ []) (hori
 
 -- number 15: output below horizon numbers, place its length
 unfoldable pub outputChecked : List ℕ → ℕ → Answer
-outputChecked l room = need (leb (horizon l) room) outputShort room (accepted 0)
+outputChecked l capacity = need (leb (horizon l) capacity) outputShort capacity (accepted 0)
 
 -- after 1 to 6
 unfoldable pub forecastAnswer : List ℕ → List ℕ → ℕ → Answer
-forecastAnswer l b room = after (fitted l b) (outputChecked l room)
+forecastAnswer l b capacity = after (fitted l b) (outputChecked l capacity)
 
 -- where it is refused, neither slice is written
-unfoldable pub forecasting : List ℕ → List ℕ → List ℕ → Left
-forecasting l b x =
+unfoldable pub forecastEffect : List ℕ → List ℕ → List ℕ → Effect
+forecastEffect l b x =
     let opened = openBook l b in
-    settleBoth (forecastAnswer l b (length x)) b (closedBook l opened) x (outputAfter l opened x)
+    commitBoth (forecastAnswer l b (length x)) b (closedBook l opened) x (outputAfter l opened x)

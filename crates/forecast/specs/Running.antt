@@ -1,4 +1,4 @@
--- How the forecast is worked out: a cell's loss goes by its own entry alone, so each cell runs through all years by itself.
+-- How the forecast is worked out: a cell's loss depends on its own entry alone, so each cell runs through all years by itself.
 -- proofs/Running.antt proves that the closings of an opened book come to this.
 use mathlib.Core.Path.{_≡_}
 use mathlib.Core.Bool.{cond}
@@ -14,9 +14,9 @@ use Rattle.listing.specs.Accepted.{Accepted}
 use Rattle.book.specs.Current.{current, heldAt, Fitted}
 use Rattle.years.specs.Years.{entriesAfter, lossIn}
 
--- the years in which a cell of this plan year rests before it loses: all, where it has none
-unfoldable pub restingYears : ℕ → ℕ → ℕ
-restingYears plan horizon = cond (eqb plan 0) horizon (plan - 1)
+-- the years in which a cell of this plan year is inactive before it loses: all, where it has none
+unfoldable pub yearsBeforeConversion : ℕ → ℕ → ℕ
+yearsBeforeConversion plan horizon = cond (eqb plan 0) horizon (plan - 1)
 
 -- book b with the words of the first n cells after every year
 unfoldable pub ranCells : List ℕ → List ℕ → ℕ → List ℕ
@@ -38,7 +38,7 @@ pub record Running (l : List ℕ) (h : Head) (i : ℕ) (x : List ℕ) : Type 0 w
   pub enough : horizon l ≤ length x
   pub small : (t : ℕ) → t < horizon l → getD x t 0 < 2 ^ 63
 
--- what all cells' years are given: a book b that fits, and an output of `room` numbers
-pub record Ready (l b : List ℕ) (room : ℕ) : Type 0 where
+-- what all cells' years are given: a book b that fits, and an output of `capacity` numbers
+pub record Ready (l b : List ℕ) (capacity : ℕ) : Type 0 where
   pub fitted : Fitted l b
-  pub enough : horizon l ≤ room
+  pub enough : horizon l ≤ capacity

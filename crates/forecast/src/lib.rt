@@ -6,13 +6,13 @@ ghost use Prim.Native.Nat.{_≤_};
 ghost use lib.ListN.{length};
 ghost use Rattle.words.specs.Answers.{outcome};
 ghost use Rattle.words.specs.Blocks.{filled};
-ghost use Rattle.words.specs.Left.{leaves};
+ghost use Rattle.words.specs.Effect.{effect};
 ghost use Rattle.listing.specs.Layout.{head, cells, horizon};
 ghost use Rattle.listing.specs.Accepted.{Accepted};
 ghost use Rattle.book.specs.Current.{newBook};
 ghost use Rattle.years.specs.Years.{entriesAfter};
-ghost use Rattle.forecast.specs.Forecast.{outputChecked, forecastAnswer, forecasting};
-ghost use Rattle.forecast.specs.Running.{restingYears, ranCells, addedYears, ranOutput, Running, Ready};
+ghost use Rattle.forecast.specs.Forecast.{outputChecked, forecastAnswer, forecastEffect};
+ghost use Rattle.forecast.specs.Running.{yearsBeforeConversion, ranCells, addedYears, ranOutput, Running, Ready};
 use book::BOOK;
 use fields::Head;
 use words::OUTPUT_SHORT;
@@ -20,30 +20,30 @@ use words::Outcome;
 use words::refuse;
 use year::Entry;
 
-// Number 15, for a right listing.
-fn check_output(listing: &[u32], room: usize) -> Outcome
+// Number 15, for a valid listing.
+fn check_output(listing: &[u32], capacity: usize) -> Outcome
     requires { ⌜ Accepted (now listing) ⌝ }
-    ensures { λ r. ⌜ outcome r ≡ outputChecked (now (listing .entry)) room ⌝ }
+    ensures { λ r. ⌜ outcome r ≡ outputChecked (now (listing .entry)) capacity ⌝ }
 {
-    if room < listing::head(listing).horizon as usize {
-        return refuse(OUTPUT_SHORT, room);
+    if capacity < listing::head(listing).horizon as usize {
+        return refuse(OUTPUT_SHORT, capacity);
     }
     Outcome::Done
 }
 
 // Numbers 1 to 6 and 15: this writes nothing.
-fn may_forecast(listing: &[u32], book: &[u32], room: usize) -> Outcome
-    ensures { λ r. ⌜ outcome r ≡ forecastAnswer (now (listing .entry)) (now (book .entry)) room ⌝ }
+fn may_forecast(listing: &[u32], book: &[u32], capacity: usize) -> Outcome
+    ensures { λ r. ⌜ outcome r ≡ forecastAnswer (now (listing .entry)) (now (book .entry)) capacity ⌝ }
 {
     match book::fits(BOOK, listing, book) {
-        Outcome::Done => check_output(listing, room),
+        Outcome::Done => check_output(listing, capacity),
         Outcome::Refused(why) => Outcome::Refused(why),
     }
 }
 
-// The years in which a cell of this plan year rests before it loses: all, where it has none.
-fn resting_years(plan: u32, horizon: u32) -> u32
-    ensures { λ r. ⌜ r ≡ restingYears plan horizon ⌝ }
+// The years in which a cell of this plan year is inactive before it loses: all, where it has none.
+fn years_before_conversion(plan: u32, horizon: u32) -> u32
+    ensures { λ r. ⌜ r ≡ yearsBeforeConversion plan horizon ⌝ }
 {
     if plan == 0 {
         return horizon;
@@ -62,11 +62,11 @@ fn run_cell(listing: &[u32], h: Head, i: usize, output: &mut [u64]) -> Entry
     let mut e = year::opened(c.conversion);
     let mut kg: u32 = 0;
     let horizon = h.horizon;
-    let mut year = resting_years(c.conversion, horizon);
+    let mut year = years_before_conversion(c.conversion, horizon);
     while year < horizon {
         let s = closing::cell_loss(listing, h, c, e, kg, year + 1);
         output[year as usize] += s.kg as u64;
-        e = year::grown(e, s);
+        e = year::after_loss(e, s);
         kg += s.kg;
         year += 1;
     }
@@ -105,7 +105,8 @@ fn clear(output: &mut [u64], n: usize)
 // Writes the scratch book as it is after every year, and each year's kg.
 fn run_years(listing: &[u32], book: &mut [u32], output: &mut [u64])
     requires { ⌜ Ready (now listing) (now book) (length (now output)) ⌝ }
-    ensures { λ _. ⌜ now (book .exit) ≡ newBook (now (listing .entry)) (now (book .entry)) (horizon (now (listing .entry))) 0 (entriesAfter (now (listing .entry)) (horizon (now (listing .entry)))) ⌝ }
+    ensures { λ _. ⌜ now (book .exit) ≡
+        newBook (now (listing .entry)) (now (book .entry)) (horizon (now (listing .entry))) 0 (entriesAfter (now (listing .entry)) (horizon (now (listing .entry)))) ⌝ }
     ensures { λ _. ⌜ now (output .exit) ≡ ranOutput (now (listing .entry)) (now (output .entry)) (cells (now (listing .entry))) ⌝ }
 {
     let h = listing::head(listing);
@@ -118,7 +119,7 @@ fn run_years(listing: &[u32], book: &mut [u32], output: &mut [u64])
 // Opens the scratch book, closes every year on it, and writes each year's kg over all cells. What
 // the scratch book held is not tested.
 pub fn forecast(listing: &[u32], book: &mut [u32], output: &mut [u64]) -> Outcome
-    ensures { λ r. ⌜ leaves (outcome r) (now (book .exit)) (now (output .exit)) ≡ forecasting (now (listing .entry)) (now (book .entry)) (now (output .entry)) ⌝ }
+    ensures { λ r. ⌜ effect (outcome r) (now (book .exit)) (now (output .exit)) ≡ forecastEffect (now (listing .entry)) (now (book .entry)) (now (output .entry)) ⌝ }
 {
     let v = may_forecast(listing, &book[..], output.len());
     match v {

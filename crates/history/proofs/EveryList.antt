@@ -7,64 +7,70 @@ use native.Mathlib.Omega.{arith}
 use Rattle.listing.specs.Layout.{head, cell}
 use Rattle.year.proofs.Laws.{emission-none}
 use Rattle.book.specs.Current.{current, admitted}
-use Rattle.ledger.specs.Calls.{opening, accountOf, stating, Call}
-use Rattle.ledger.proofs.Reached.{reaches}
-use Rattle.ledger.proofs.After.{opened-says}
-use Rattle.history.specs.History.{State, next, run, Start, fresh, yearIn, planIn, sumOf, issuedIn, highest, EachClosing, Kept, EveryList, Brings, EveryListFrom}
+use Rattle.ledger.specs.Calls.{openEffect, figuresOf, statementAnswer, Call}
+use Rattle.ledger.proofs.AdmittedCell.{cell-admitted}
+use Rattle.ledger.proofs.After.{opened-holds}
+use Rattle.history.specs.History.{State, next, run, BroughtForward, broughtByOpen, yearIn, planIn, sumOf, issuedIn, highest, EachClosing, dOf, EveryUnconverted}
+use Rattle.history.specs.History.{Claims, EveryList, BroughtBy, EveryListFrom}
 use Rattle.book.proofs.Sound.{shaped, sound}
 use Rattle.history.proofs.Invariant.{Inv, kept-step}
 
 -- before the first call
-kept-start : (l b : List ℕ) (s : Start) → admitted l b .done ≡ true → Brings l b s → Inv l s b []
+kept-start : (l b : List ℕ) (s : BroughtForward) → admitted l b .done ≡ true → BroughtBy l b s → Inv l s b []
 unfolding yearIn planIn sumOf issuedIn highest EachClosing
-kept-start l b s admits brings =
+kept-start l b s admits brought =
     record {
       admits = admits;
-      year-is = brings .year-is;
-      issued-is = brings .issued-is;
-      plan-is = brings .plan-is;
-      oxidised-is = brings .oxidised-is;
-      burned-is = brings .burned-is;
-      kilos = brings .kg-is;
+      year-is = brought .year-is;
+      issued-is = brought .issued-is;
+      plan-is = brought .plan-is;
+      oxidised-is = brought .oxidised-is;
+      burned-is = brought .burned-is;
+      kilograms = brought .kg-is;
       dry = λ i p. tt;
       top = refl;
     }
 
 -- and so after a list of calls
-kept-run : (l : List ℕ) (s : Start) (now : State) (calls : List Call) → Inv l s (now .book) (now .history) → Inv l s (run l now calls .book) (run l now calls .history)
+kept-run : (l : List ℕ) (s : BroughtForward) (state : State) (calls : List Call) → Inv l s (state .book) (state .history) → Inv l s (run l state calls .book) (run l state calls .history)
 unfolding run
-kept-run l s now [] v = v
-kept-run l s now (c ∷ calls) v = kept-run l s (next l now c) calls (kept-step l s (now .book) (now .history) v c)
+kept-run l s state [] v = v
+kept-run l s state (c ∷ calls) v = kept-run l s (next l state c) calls (kept-step l s (state .book) (state .history) v c)
 
 -- what the invariant says in words
-claims : (l : List ℕ) (s : Start) (now : State) → Inv l s (now .book) (now .history) → Kept l s now
-unfolding stating accountOf
-claims l s now v =
+claims : (l : List ℕ) (s : BroughtForward) (state : State) → Inv l s (state .book) (state .history) → Claims l s state
+unfolding statementAnswer figuresOf
+claims l s state v =
     record {
       each = λ i p.
-          let told = reaches l (now .book) i (v .admits) p in
+          let stated = cell-admitted l (state .book) i (v .admits) p in
           record {
-            told = told;
-            depth = rw told (omega (arith, v .oxidised-is i p, v .burned-is i p, sound current l (now .book) shaped (v .admits) .entry-right i p .lost));
-            kilos = v .kilos i p;
+            stated = stated;
+            depth = rw stated (omega (arith, v .oxidised-is i p, v .burned-is i p, sound current l (state .book) shaped (v .admits) .entry-valid i p .lost));
+            kilograms = v .kilograms i p;
             dry = v .dry i p;
           };
       issues = v .top;
     }
 
 pub every-list-from : EveryListFrom
-every-list-from l b s admits brings calls = claims l s _ (kept-run l s (record { book = b; history = [] }) calls (kept-start l b s admits brings))
+every-list-from l b s admits brought calls = claims l s _ (kept-run l s (record { book = b; history = [] }) calls (kept-start l b s admits brought))
 
 -- an opened book brings nothing, and the listing's plan years
 pub every-list : EveryList
 every-list l b done =
-    let says = opened-says l b done in
-    every-list-from l (opening l b .book) (fresh l) (says .admits)
+    let holds = opened-holds l b done in
+    every-list-from l (openEffect l b .book) (broughtByOpen l) (holds .admits)
     (record {
-      year-is = says .year-is;
-      issued-is = says .issued-is;
-      plan-is = λ i p. rw (says .entry-is i p);
-      oxidised-is = λ i p. rw (says .entry-is i p);
-      burned-is = λ i p. rw (says .entry-is i p);
+      year-is = holds .year-is;
+      issued-is = holds .issued-is;
+      plan-is = λ i p. rw (holds .entry-is i p);
+      oxidised-is = λ i p. rw (holds .entry-is i p);
+      burned-is = λ i p. rw (holds .entry-is i p);
       kg-is = λ i p. sym (emission-none (head l) (cell l i));
     })
+
+-- what is no claim of a list: d of a cell that is not converted
+pub every-unconverted : EveryUnconverted
+unfolding dOf
+every-unconverted l s before i e = rw e

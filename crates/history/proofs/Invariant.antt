@@ -13,18 +13,19 @@ use Rattle.year.specs.declared.Entry.{Entry}
 use Rattle.year.specs.Year.{emission}
 use Rattle.year.specs.Year.{planned, marked}
 use Rattle.year.proofs.Laws.{year-kg, year-dry}
-use Rattle.book.specs.Current.{issued, entry, kgTo, admitted, Says}
+use Rattle.book.specs.Current.{issued, entry, kgTo, admitted, Holds}
 use Rattle.book.specs.Layout.{year}
 use Rattle.balance.specs.Balance.{balanceIn}
 use Rattle.balance.proofs.Bounds.{balance-same, issue-max}
 use Rattle.closing.specs.Closing.{loss}
-use Rattle.ledger.specs.Calls.{closing, replanning, withdrawing, issuing, Call, Close, Replan, Withdraw, Issue, calling}
-use Rattle.ledger.proofs.After.{closed-says, closed-line, replanned-says, withdrawn-says, issued-says, issued-value, call-refused}
-use Rattle.history.specs.History.{handedOut, step, Event, Lines, Planned, Paid, Nothing, History, Start, yearIn, planIn, sumOf, oxidisedIn, burnedIn, kgIn, issuedIn, balanceAt, highest, EachClosing, dOf, StayedDry}
+use Rattle.ledger.specs.Calls.{closeEffect, replanEffect, withdrawEffect, issueEffect, Call, Close, Replan, Withdraw, Issue, callEffect}
+use Rattle.ledger.proofs.After.{closed-holds, closed-line, replanned-holds, withdrawn-holds, issued-holds, issued-value, call-refused}
+use Rattle.history.specs.History.{eventOf, step, Event, Lines, Planned, Paid, Nothing, History, BroughtForward, yearIn, planIn, sumOf, oxidisedIn, burnedIn, kgIn}
+use Rattle.history.specs.History.{issuedIn, balanceAt, highest, EachClosing, dOf, StayedDry}
 
 -- the book b is admitted and says what the history h says, and the claims hold of h. A record type with no name: at an event that
 -- changes nothing it computes to itself, and the old proof is the new one
-abbrev pub Inv : List ℕ → Start → List ℕ → History → Type 0
+abbrev pub Inv : List ℕ → BroughtForward → List ℕ → History → Type 0
 Inv l s b h =
     record {
       admits : admitted l b .done ≡ true;
@@ -33,7 +34,7 @@ Inv l s b h =
       plan-is : (i : ℕ) → i < cells l → entry b i .plan ≡ planIn s h i;
       oxidised-is : (i : ℕ) → i < cells l → entry b i .oxidised ≡ oxidisedIn s h i;
       burned-is : (i : ℕ) → i < cells l → entry b i .burned ≡ burnedIn s h i;
-      kilos : (i : ℕ) → i < cells l → kgIn s h i ≡ emission (head l) (cell l i) (oxidisedIn s h i) (burnedIn s h i);
+      kilograms : (i : ℕ) → i < cells l → kgIn s h i ≡ emission (head l) (cell l i) (oxidisedIn s h i) (burnedIn s h i);
       dry : (i : ℕ) → i < cells l → EachClosing (StayedDry l s i) h;
       top : issuedIn s h ≡ highest l s h;
     }
@@ -43,19 +44,19 @@ plan-of : (c : Bool) (x y : Entry) (u w : ℕ) → x .plan ≡ u → y .plan ≡
 plan-of true x y u w e f = e
 plan-of false x y u w e f = f
 
-module _ (l : List ℕ) (s : Start) (b : List ℕ) (h : History) (v : Inv l s b h) where
-  -- ---- a call that hands out nothing and leaves the book
+module _ (l : List ℕ) (s : BroughtForward) (b : List ℕ) (h : History) (v : Inv l s b h) where
+  -- ---- a call that returns nothing and leaves the book
   kept-nothing : (b′ : List ℕ) → b′ ≡ b → Inv l s b′ (Nothing ∷ h)
   unfolding yearIn planIn sumOf issuedIn highest EachClosing
   kept-nothing b′ e = rw e v
 
   -- ---- a closing with a lines buffer x
-  module _ (x : List ℕ) (done : closing l b x .answer .done ≡ true) where
+  module _ (x : List ℕ) (done : closeEffect l b x .answer .done ≡ true) where
     -- cell i's kg line and its mm lines stay one sum's
-    closed-kilos : (i : ℕ) → i < cells l →
+    closed-kilograms : (i : ℕ) → i < cells l →
         kgIn s h i + loss l b i .kg ≡ emission (head l) (cell l i) (oxidisedIn s h i + loss l b i .oxidised) (burnedIn s h i + loss l b i .burned)
-    closed-kilos i p =
-        rw (v .kilos i p, ← (v .oxidised-is i p), ← (v .burned-is i p)) (year-kg (head l) (row l) (cell l i) (entry b i) (year b + 1))
+    closed-kilograms i p =
+        rw (v .kilograms i p, ← (v .oxidised-is i p), ← (v .burned-is i p)) (year-kg (head l) (row l) (cell l i) (entry b i) (year b + 1))
 
     closed-dry : (i : ℕ) → i < cells l → 0 < loss l b i .burned → head l .guard + loss l b i .burned ≤ dOf l s h i
     unfolding dOf
@@ -63,89 +64,90 @@ module _ (l : List ℕ) (s : Start) (b : List ℕ) (h : History) (v : Inv l s b 
         let d = year-dry (head l) (row l) (cell l i) (entry b i) (year b + 1) lt in
         rw (← (v .year-is), ← (v .plan-is i p), ← (add-one (year b)), d .0) (d .1)
 
-    kept-close : Inv l s (closing l b x .book) (Lines (closing l b x .output) ∷ h)
+    kept-close : Inv l s (closeEffect l b x .book) (Lines (closeEffect l b x .output) ∷ h)
     unfolding yearIn planIn sumOf issuedIn highest EachClosing
     kept-close =
-        let says = closed-says l b x done in
+        let holds = closed-holds l b x done in
         let line = closed-line l b x done in
         record {
-          admits = says .admits;
-          year-is = omega (arith, says .year-is, v .year-is);
-          issued-is = says .issued-is ∙ v .issued-is;
-          plan-is = λ i p. ap (λ (e : Entry). e .plan) (says .entry-is i p) ∙ v .plan-is i p;
-          oxidised-is = λ i p. omega (arith, ap (λ (e : Entry). e .oxidised) (says .entry-is i p), v .oxidised-is i p, line i p .0);
-          burned-is = λ i p. omega (arith, ap (λ (e : Entry). e .burned) (says .entry-is i p), v .burned-is i p, line i p .1);
-          kilos = λ i p. rw (line i p .0, line i p .1, line i p .2) (closed-kilos i p);
+          admits = holds .admits;
+          year-is = omega (arith, holds .year-is, v .year-is);
+          issued-is = holds .issued-is ∙ v .issued-is;
+          plan-is = λ i p. ap (λ (e : Entry). e .plan) (holds .entry-is i p) ∙ v .plan-is i p;
+          oxidised-is = λ i p. omega (arith, ap (λ (e : Entry). e .oxidised) (holds .entry-is i p), v .oxidised-is i p, line i p .0);
+          burned-is = λ i p. omega (arith, ap (λ (e : Entry). e .burned) (holds .entry-is i p), v .burned-is i p, line i p .1);
+          kilograms = λ i p. rw (line i p .0, line i p .1, line i p .2) (closed-kilograms i p);
           dry = λ i p. (rw (line i p .1) (closed-dry i p), v .dry i p);
           top = v .top;
         }
 
   -- ---- a replan and a withdrawal change the entry of cell i; a field f that the change keeps stays what it was
-  module _ (b′ : List ℕ) (i : ℕ) (change : Entry → Entry) (says : Says l b′ (year b) (issued b) (λ j. cond (eqb i j) (change (entry b j)) (entry b j))) where
+  module _ (b′ : List ℕ) (i : ℕ) (change : Entry → Entry) (holds : Holds l b′ (year b) (issued b) (λ j. cond (eqb i j) (change (entry b j)) (entry b j))) where
     same-field : (f : Entry → ℕ) → ((e : Entry) → f (change e) ≡ f e) → (j : ℕ) → j < cells l → f (entry b′ j) ≡ f (entry b j)
     same-field f keeps j p =
-        ap f (says .entry-is j p) ∙ by-test (λ (e : Entry). f e ≡ f (entry b j)) (eqb i j) (change (entry b j)) (entry b j) (λ here. keeps (entry b j)) (λ other. refl)
+        ap f (holds .entry-is j p) ∙ by-test (λ (e : Entry). f e ≡ f (entry b j)) (eqb i j) (change (entry b j)) (entry b j) (λ here. keeps (entry b j)) (λ other. refl)
 
-  kept-replan : (i y : ℕ) → replanning l b i y .answer .done ≡ true → Inv l s (replanning l b i y .book) (Planned i y ∷ h)
+  kept-replan : (i y : ℕ) → replanEffect l b i y .answer .done ≡ true → Inv l s (replanEffect l b i y .book) (Planned i y ∷ h)
   unfolding yearIn planIn sumOf issuedIn highest EachClosing
   kept-replan i y done =
-      let says = replanned-says l b i y done in
-      let same = same-field (replanning l b i y .book) i (λ (e : Entry). planned e y) says in
+      let holds = replanned-holds l b i y done in
+      let same = same-field (replanEffect l b i y .book) i (λ (e : Entry). planned e y) holds in
       record {
-        admits = says .admits;
-        year-is = says .year-is ∙ v .year-is;
-        issued-is = says .issued-is ∙ v .issued-is;
-        plan-is = λ j p. ap (λ (e : Entry). e .plan) (says .entry-is j p) ∙ plan-of (eqb i j) (planned (entry b j) y) (entry b j) y (planIn s h j) refl (v .plan-is j p);
+        admits = holds .admits;
+        year-is = holds .year-is ∙ v .year-is;
+        issued-is = holds .issued-is ∙ v .issued-is;
+        plan-is = λ j p. ap (λ (e : Entry). e .plan) (holds .entry-is j p) ∙ plan-of (eqb i j) (planned (entry b j) y) (entry b j) y (planIn s h j) refl (v .plan-is j p);
         oxidised-is = λ j p. same (λ (e : Entry). e .oxidised) (λ e. refl) j p ∙ v .oxidised-is j p;
         burned-is = λ j p. same (λ (e : Entry). e .burned) (λ e. refl) j p ∙ v .burned-is j p;
-        kilos = v .kilos;
+        kilograms = v .kilograms;
         dry = v .dry;
         top = v .top;
       }
 
-  kept-withdraw : (i : ℕ) → withdrawing l b i .answer .done ≡ true → Inv l s (withdrawing l b i .book) (Nothing ∷ h)
+  kept-withdraw : (i : ℕ) → withdrawEffect l b i .answer .done ≡ true → Inv l s (withdrawEffect l b i .book) (Nothing ∷ h)
   unfolding yearIn planIn sumOf issuedIn highest EachClosing
   kept-withdraw i done =
-      let says = withdrawn-says l b i done in
-      let same = same-field (withdrawing l b i .book) i marked says in
+      let holds = withdrawn-holds l b i done in
+      let same = same-field (withdrawEffect l b i .book) i marked holds in
       record {
-        admits = says .admits;
-        year-is = says .year-is ∙ v .year-is;
-        issued-is = says .issued-is ∙ v .issued-is;
+        admits = holds .admits;
+        year-is = holds .year-is ∙ v .year-is;
+        issued-is = holds .issued-is ∙ v .issued-is;
         plan-is = λ j p. same (λ (e : Entry). e .plan) (λ e. refl) j p ∙ v .plan-is j p;
         oxidised-is = λ j p. same (λ (e : Entry). e .oxidised) (λ e. refl) j p ∙ v .oxidised-is j p;
         burned-is = λ j p. same (λ (e : Entry). e .burned) (λ e. refl) j p ∙ v .burned-is j p;
-        kilos = v .kilos;
+        kilograms = v .kilograms;
         dry = v .dry;
         top = v .top;
       }
 
   -- ---- an issue
   balance-is : balanceIn l b ≡ balanceAt l s h
-  balance-is = balance-same l (year b) (yearIn s h) (kgTo l b) (kgIn s h) (v .year-is) (λ i p. rw (v .kilos i p, v .oxidised-is i p, v .burned-is i p))
+  balance-is = balance-same l (year b) (yearIn s h) (kgTo l b) (kgIn s h) (v .year-is) (λ i p. rw (v .kilograms i p, v .oxidised-is i p, v .burned-is i p))
 
-  kept-issue : issuing l b .answer .done ≡ true → Inv l s (issuing l b .book) (Paid (issuing l b .answer .value) ∷ h)
+  kept-issue : issueEffect l b .answer .done ≡ true → Inv l s (issueEffect l b .book) (Paid (issueEffect l b .answer .value) ∷ h)
   unfolding yearIn planIn sumOf issuedIn highest EachClosing
   kept-issue done =
-      let says = issued-says l b done in
+      let holds = issued-holds l b done in
       record {
-        admits = says .admits;
-        year-is = says .year-is ∙ v .year-is;
-        issued-is = rw (issued-value l b done, ← (v .issued-is)) (says .issued-is);
-        plan-is = λ i p. rw (says .entry-is i p) (v .plan-is i p);
-        oxidised-is = λ i p. rw (says .entry-is i p) (v .oxidised-is i p);
-        burned-is = λ i p. rw (says .entry-is i p) (v .burned-is i p);
-        kilos = v .kilos;
+        admits = holds .admits;
+        year-is = holds .year-is ∙ v .year-is;
+        issued-is = rw (issued-value l b done, ← (v .issued-is)) (holds .issued-is);
+        plan-is = λ i p. rw (holds .entry-is i p) (v .plan-is i p);
+        oxidised-is = λ i p. rw (holds .entry-is i p) (v .oxidised-is i p);
+        burned-is = λ i p. rw (holds .entry-is i p) (v .burned-is i p);
+        kilograms = v .kilograms;
         dry = v .dry;
         top = omega (arith, issued-value l b done, ap atLeast0 balance-is, v .top, v .issued-is, issue-max (balanceIn l b) (issued b));
       }
 
-  -- ---- every call: what an accepted one hands out is kept, and a refused one hands out nothing
+  -- ---- every call: what an accepted one returns is kept, and a refused one returns nothing
   pub kept-step : (c : Call) → Inv l s (step l b c .book) (step l b c .event ∷ h)
   kept-step c =
-      by-test (λ (e : Event). Inv l s (calling l b c .book) (e ∷ h)) (calling l b c .answer .done) (handedOut c (calling l b c)) Nothing (kept c) (λ refused. kept-nothing _ (call-refused l b c refused))
+      by-test (λ (e : Event). Inv l s (callEffect l b c .book) (e ∷ h)) (callEffect l b c .answer .done) (eventOf c (callEffect l b c)) Nothing (kept c)
+      (λ refused. kept-nothing _ (call-refused l b c refused))
     where
-      kept : (c : Call) → calling l b c .answer .done ≡ true → Inv l s (calling l b c .book) (handedOut c (calling l b c) ∷ h)
+      kept : (c : Call) → callEffect l b c .answer .done ≡ true → Inv l s (callEffect l b c .book) (eventOf c (callEffect l b c) ∷ h)
       kept (Close x) = kept-close x
       kept (Replan i y) = kept-replan i y
       kept (Withdraw i) = kept-withdraw i

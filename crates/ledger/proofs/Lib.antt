@@ -1,4 +1,4 @@
 -- Laws of the six calls.
-pub mod Reached
+pub mod AdmittedCell
 pub mod After
 pub mod Untouched

@@ -6,7 +6,7 @@ use mathlib.Core.List.{List, []}
 use lib.Dec.{leb, ltb, eqb}
 use lib.ListN.{length, getD}
 use Rattle.words.specs.Answers.{Answer, accepted, refused, need, after}
-use Rattle.words.specs.Left.{Left, settle, settleBoth}
+use Rattle.words.specs.Effect.{Effect, commit, commitBoth}
 use Rattle.words.specs.Refusals.{noSuchCell, cellWithdrawn, cellConverted, yearNotAhead}
 use Rattle.listing.specs.Layout.{cells, horizon, cell}
 use Rattle.year.specs.Year.{unconverted, remaining, planned, marked}
@@ -15,22 +15,21 @@ use Rattle.book.specs.Layout.{lineWords, year}
 use Rattle.balance.specs.Balance.{tonnesDue}
 use Rattle.opening.specs.Opening.{openBook}
 use Rattle.closing.specs.Closing.{bookAfter, linesAfter, closeAnswer}
-use Rattle.ledger.specs.declared.Account.{Account}
+use Rattle.ledger.specs.declared.CellFigures.{CellFigures}
 use Rattle.ledger.specs.declared.Stated.{Stated}
-use Rattle.ledger.specs.declared.Stated.the-variants.{Told}
 use Rattle.ledger.specs.declared.Stated.the-variants as state
 
 -- ---- open: year 0, 0 issued, plan years of the listing, nothing withdrawn, zeros
 
 -- refused by 1 to 6
-unfoldable pub opening : List ℕ → List ℕ → Left
-opening l b = settle (fitted l b) b (openBook l b)
+unfoldable pub openEffect : List ℕ → List ℕ → Effect
+openEffect l b = commit (fitted l b) b (openBook l b)
 
 -- ---- close, with a lines buffer x
 
 -- refused by 1 to 9 and 14, and then neither slice is written
-unfoldable pub closing : List ℕ → List ℕ → List ℕ → Left
-closing l b x = settleBoth (closeAnswer l b (length x)) b (bookAfter l b) x (linesAfter l b x)
+unfoldable pub closeEffect : List ℕ → List ℕ → List ℕ → Effect
+closeEffect l b x = commitBoth (closeAnswer l b (length x)) b (bookAfter l b) x (linesAfter l b x)
 
 -- ---- calls on cell i: number 10, and for replan and withdraw 11
 
@@ -39,16 +38,16 @@ unfoldable pub cellChecked : List ℕ → ℕ → Answer
 cellChecked l i = need (ltb i (cells l)) noSuchCell 0 (accepted 0)
 
 -- after 1 to 6 and 8
-unfoldable pub reached : List ℕ → List ℕ → ℕ → Answer
-reached l b i = after (admitted l b) (cellChecked l i)
+unfoldable pub admittedCell : List ℕ → List ℕ → ℕ → Answer
+admittedCell l b i = after (admitted l b) (cellChecked l i)
 
 -- 11, cell withdrawn
 unfoldable pub markChecked : List ℕ → ℕ → Answer
 markChecked b i = need (not (entry b i .withdrawn)) cellWithdrawn 0 (accepted 0)
 
 -- after 1 to 6, 8 and 10
-unfoldable pub standing : List ℕ → List ℕ → ℕ → Answer
-standing l b i = after (reached l b i) (markChecked b i)
+unfoldable pub admittedUnwithdrawn : List ℕ → List ℕ → ℕ → Answer
+admittedUnwithdrawn l b i = after (admittedCell l b i) (markChecked b i)
 
 -- ---- replan: sets the plan year of a cell not yet converted
 
@@ -65,17 +64,17 @@ planChecked l b i y =
 
 -- after 1 to 6, 8, 10 and 11
 unfoldable pub replanAnswer : List ℕ → List ℕ → ℕ → ℕ → Answer
-replanAnswer l b i y = after (standing l b i) (planChecked l b i y)
+replanAnswer l b i y = after (admittedUnwithdrawn l b i) (planChecked l b i y)
 
--- the cell's word of kind 10 alone is written; the mark stays, and a cell that stands has none
-unfoldable pub replanning : List ℕ → List ℕ → ℕ → ℕ → Left
-replanning l b i y = settle (replanAnswer l b i y) b (withPlan b i (planned (entry b i) y))
+-- the cell's word of kind 10 alone is written; the mark stays, and a cell that is not withdrawn has none
+unfoldable pub replanEffect : List ℕ → List ℕ → ℕ → ℕ → Effect
+replanEffect l b i y = commit (replanAnswer l b i y) b (withPlan b i (planned (entry b i) y))
 
 -- ---- withdraw: marks a cell for good; what it has lost stays counted
 
 -- the mark is set, and the plan year stays
-unfoldable pub withdrawing : List ℕ → List ℕ → ℕ → Left
-withdrawing l b i = settle (standing l b i) b (withPlan b i (marked (entry b i)))
+unfoldable pub withdrawEffect : List ℕ → List ℕ → ℕ → Effect
+withdrawEffect l b i = commit (admittedUnwithdrawn l b i) b (withPlan b i (marked (entry b i)))
 
 -- ---- issue: answers what is due, and adds it to issued
 
@@ -84,28 +83,28 @@ unfoldable pub issueAnswer : List ℕ → List ℕ → Answer
 issueAnswer l b = after (admitted l b) (accepted (tonnesDue l b))
 
 -- the answer is added to issued
-unfoldable pub issuing : List ℕ → List ℕ → Left
-issuing l b = settle (issueAnswer l b) b (withIssued b (issued b + tonnesDue l b))
+unfoldable pub issueEffect : List ℕ → List ℕ → Effect
+issueEffect l b = commit (issueAnswer l b) b (withIssued b (issued b + tonnesDue l b))
 
 -- ---- statement: a cell's entered, remaining, O, B, kg to date, plan year and mark; writes nothing
 
 -- its answer, and the figures
-pub record Telling : Type 0 where
+pub record StatementAnswer : Type 0 where
   pub answer : Answer
-  pub account : Account
+  pub figures : CellFigures
 
 -- where it is refused, every figure is 0
-abbrev pub noAccount : Account
-noAccount = record { entered = 0; remaining = 0; oxidised = 0; burned = 0; kg = 0; «plan_year» = 0; withdrawn = false }
+abbrev pub noFigures : CellFigures
+noFigures = record { entered = 0; remaining = 0; oxidised = 0; burned = 0; kg = 0; «plan_year» = 0; withdrawn = false }
 
 -- the cases of the answer
-abbrev pub statedAs : Stated → Telling
-statedAs (Told a) = record { answer = accepted 0; account = a }
-statedAs (state.Refused r) = record { answer = refused (r .number) (r .place); account = noAccount }
+abbrev pub stated : Stated → StatementAnswer
+stated (state.Value a) = record { answer = accepted 0; figures = a }
+stated (state.Refused r) = record { answer = refused (r .number) (r .place); figures = noFigures }
 
 -- the figures of cell i: remaining depth and kg to date follow from O and B
-unfoldable pub accountOf : List ℕ → List ℕ → ℕ → Account
-accountOf l b i =
+unfoldable pub figuresOf : List ℕ → List ℕ → ℕ → CellFigures
+figuresOf l b i =
     record {
       entered = cell l i .entered;
       remaining = remaining (cell l i) (entry b i);
@@ -117,8 +116,8 @@ accountOf l b i =
     }
 
 -- refused by 1 to 6, 8 and 10
-unfoldable pub stating : List ℕ → List ℕ → ℕ → Telling
-stating l b i = record { answer = reached l b i; account = cond (reached l b i .done) (accountOf l b i) noAccount }
+unfoldable pub statementAnswer : List ℕ → List ℕ → ℕ → StatementAnswer
+statementAnswer l b i = record { answer = admittedCell l b i; figures = cond (admittedCell l b i .done) (figuresOf l b i) noFigures }
 
 -- ---- any call that may write
 
@@ -130,18 +129,18 @@ pub data Call : Type 0 where
   Issue : Call
 
 -- what it answers and leaves
-abbrev pub calling : List ℕ → List ℕ → Call → Left
-calling l b (Close x) = closing l b x
-calling l b (Replan i y) = replanning l b i y
-calling l b (Withdraw i) = withdrawing l b i
-calling l b Issue = issuing l b
+abbrev pub callEffect : List ℕ → List ℕ → Call → Effect
+callEffect l b (Close x) = closeEffect l b x
+callEffect l b (Replan i y) = replanEffect l b i y
+callEffect l b (Withdraw i) = withdrawEffect l b i
+callEffect l b Issue = issueEffect l b
 
 -- its lines buffer
-abbrev pub lent : Call → List ℕ
-lent (Close x) = x
-lent (Replan i y) = []
-lent (Withdraw i) = []
-lent Issue = []
+abbrev pub linesBuffer : Call → List ℕ
+linesBuffer (Close x) = x
+linesBuffer (Replan i y) = []
+linesBuffer (Withdraw i) = []
+linesBuffer Issue = []
 
 -- y is as long as x, and has x's words from place n on
 pub record Beyond (n : ℕ) (x y : List ℕ) : Type 0 where
@@ -150,6 +149,6 @@ pub record Beyond (n : ℕ) (x y : List ℕ) : Type 0 where
 
 -- words beyond those needed are untouched everywhere; proofs/Untouched.antt proves it, and the forecast has a statement of its own
 pub record EveryUntouched : Type 0 where
-  pub opened : (l b : List ℕ) → Beyond (bookSize (cells l)) b (opening l b .book)
-  pub book : (l b : List ℕ) (c : Call) → Beyond (bookSize (cells l)) b (calling l b c .book)
-  pub lines : (l b : List ℕ) (c : Call) → Beyond (lineWords * cells l) (lent c) (calling l b c .output)
+  pub opened : (l b : List ℕ) → Beyond (bookSize (cells l)) b (openEffect l b .book)
+  pub book : (l b : List ℕ) (c : Call) → Beyond (bookSize (cells l)) b (callEffect l b c .book)
+  pub lines : (l b : List ℕ) (c : Call) → Beyond (lineWords * cells l) (linesBuffer c) (callEffect l b c .output)

@@ -1,3 +1,3 @@
 -- What the contracts of the six calls cite.
 pub mod Calls
-pub mod Reached
+pub mod AdmittedCell

@@ -1,13 +1,14 @@
-// The ledger's six calls. None asks anything of its caller; each answers a number and a place where
+// The ledger's six calls. None requires anything of its caller; each answers a number and a place where
 // it is refused, and then it has written nothing.
 ghost use mathlib.Core.Path.{_≡_};
 ghost use mathlib.Core.List.{[]};
 ghost use Rattle.words.specs.Answers.{outcome, amount};
 ghost use Rattle.listing.specs.Accepted.{Accepted};
-ghost use Rattle.words.specs.Left.{leaves};
-ghost use Rattle.book.specs.Current.{Room};
-ghost use Rattle.ledger.specs.Calls.{opening, closing, cellChecked, reached, markChecked, standing, planChecked, replanAnswer, replanning, withdrawing, issuing, statedAs, accountOf, stating};
-ghost use Rattle.ledger.specs.Reached.{Reached};
+ghost use Rattle.words.specs.Effect.{effect};
+ghost use Rattle.book.specs.Current.{CellInBook};
+ghost use Rattle.ledger.specs.Calls.{openEffect, closeEffect, cellChecked, admittedCell, markChecked, admittedUnwithdrawn, planChecked, replanAnswer, replanEffect};
+ghost use Rattle.ledger.specs.Calls.{withdrawEffect, issueEffect, stated, figuresOf, statementAnswer};
+ghost use Rattle.ledger.specs.AdmittedCell.{AdmittedCell};
 use book::BOOK;
 use words::Amount;
 use words::CELL_CONVERTED;
@@ -18,9 +19,9 @@ use words::Refusal;
 use words::YEAR_NOT_AHEAD;
 use words::refuse;
 
-// What is told of a cell: mm entered, remaining, oxidised and burned to date, kg to date, its plan
+// What is stated of a cell: mm entered, remaining, oxidised and burned to date, kg to date, its plan
 // year and its mark.
-pub struct Account {
+pub struct CellFigures {
     pub entered: u32,
     pub remaining: u32,
     pub oxidised: u32,
@@ -32,13 +33,13 @@ pub struct Account {
 
 // The answer of a statement.
 pub enum Stated {
-    Told(Account),
+    Value(CellFigures),
     Refused(Refusal),
 }
 
 // Opens a book for a listing.
 pub fn open(listing: &[u32], book: &mut [u32]) -> Outcome
-    ensures { λ r. ⌜ leaves (outcome r) (now (book .exit)) [] ≡ opening (now (listing .entry)) (now (book .entry)) ⌝ }
+    ensures { λ r. ⌜ effect (outcome r) (now (book .exit)) [] ≡ openEffect (now (listing .entry)) (now (book .entry)) ⌝ }
 {
     let v = book::fits(BOOK, listing, &book[..]);
     match v {
@@ -52,7 +53,7 @@ pub fn open(listing: &[u32], book: &mut [u32]) -> Outcome
 
 // Closes the year after the current one: three line words for each cell, and the book.
 pub fn close(listing: &[u32], book: &mut [u32], lines: &mut [u32]) -> Outcome
-    ensures { λ r. ⌜ leaves (outcome r) (now (book .exit)) (now (lines .exit)) ≡ closing (now (listing .entry)) (now (book .entry)) (now (lines .entry)) ⌝ }
+    ensures { λ r. ⌜ effect (outcome r) (now (book .exit)) (now (lines .exit)) ≡ closeEffect (now (listing .entry)) (now (book .entry)) (now (lines .entry)) ⌝ }
 {
     let v = closing::may_close(listing, &book[..], lines.len());
     match v {
@@ -64,7 +65,7 @@ pub fn close(listing: &[u32], book: &mut [u32], lines: &mut [u32]) -> Outcome
     }
 }
 
-// Number 10, for a right listing.
+// Number 10, for a valid listing.
 fn check_cell(listing: &[u32], cell: usize) -> Outcome
     requires { ⌜ Accepted (now listing) ⌝ }
     ensures { λ r. ⌜ outcome r ≡ cellChecked (now (listing .entry)) cell ⌝ }
@@ -77,8 +78,8 @@ fn check_cell(listing: &[u32], cell: usize) -> Outcome
 }
 
 // Numbers 1 to 6, 8 and 10.
-fn reach(listing: &[u32], book: &[u32], cell: usize) -> Outcome
-    ensures { λ r. ⌜ outcome r ≡ reached (now (listing .entry)) (now (book .entry)) cell ⌝ }
+fn admit_cell(listing: &[u32], book: &[u32], cell: usize) -> Outcome
+    ensures { λ r. ⌜ outcome r ≡ admittedCell (now (listing .entry)) (now (book .entry)) cell ⌝ }
 {
     match book::admit(BOOK, listing, book) {
         Outcome::Done => check_cell(listing, cell),
@@ -88,7 +89,7 @@ fn reach(listing: &[u32], book: &[u32], cell: usize) -> Outcome
 
 // Number 11.
 fn check_mark(book: &[u32], cell: usize) -> Outcome
-    requires { ⌜ Room (now book) cell ⌝ }
+    requires { ⌜ CellInBook (now book) cell ⌝ }
     ensures { λ r. ⌜ outcome r ≡ markChecked (now (book .entry)) cell ⌝ }
 {
     let e = book::entry(BOOK, book, cell);
@@ -99,10 +100,10 @@ fn check_mark(book: &[u32], cell: usize) -> Outcome
 }
 
 // Numbers 1 to 6, 8, 10 and 11.
-fn stand(listing: &[u32], book: &[u32], cell: usize) -> Outcome
-    ensures { λ r. ⌜ outcome r ≡ standing (now (listing .entry)) (now (book .entry)) cell ⌝ }
+fn admit_unwithdrawn(listing: &[u32], book: &[u32], cell: usize) -> Outcome
+    ensures { λ r. ⌜ outcome r ≡ admittedUnwithdrawn (now (listing .entry)) (now (book .entry)) cell ⌝ }
 {
-    match reach(listing, book, cell) {
+    match admit_cell(listing, book, cell) {
         Outcome::Done => check_mark(book, cell),
         Outcome::Refused(why) => Outcome::Refused(why),
     }
@@ -110,7 +111,7 @@ fn stand(listing: &[u32], book: &[u32], cell: usize) -> Outcome
 
 // Numbers 12 and 13.
 fn check_plan(listing: &[u32], book: &[u32], cell: usize, year: u32) -> Outcome
-    requires { ⌜ Reached (now listing) (now book) cell ⌝ }
+    requires { ⌜ AdmittedCell (now listing) (now book) cell ⌝ }
     ensures { λ r. ⌜ outcome r ≡ planChecked (now (listing .entry)) (now (book .entry)) cell year ⌝ }
 {
     let current = book::year(book);
@@ -129,7 +130,7 @@ fn check_plan(listing: &[u32], book: &[u32], cell: usize, year: u32) -> Outcome
 fn may_replan(listing: &[u32], book: &[u32], cell: usize, year: u32) -> Outcome
     ensures { λ r. ⌜ outcome r ≡ replanAnswer (now (listing .entry)) (now (book .entry)) cell year ⌝ }
 {
-    match stand(listing, book, cell) {
+    match admit_unwithdrawn(listing, book, cell) {
         Outcome::Done => check_plan(listing, book, cell, year),
         Outcome::Refused(why) => Outcome::Refused(why),
     }
@@ -137,7 +138,7 @@ fn may_replan(listing: &[u32], book: &[u32], cell: usize, year: u32) -> Outcome
 
 // Gives a cell that is not yet converted another plan year, or 0 for never.
 pub fn replan(listing: &[u32], book: &mut [u32], cell: usize, year: u32) -> Outcome
-    ensures { λ r. ⌜ leaves (outcome r) (now (book .exit)) [] ≡ replanning (now (listing .entry)) (now (book .entry)) cell year ⌝ }
+    ensures { λ r. ⌜ effect (outcome r) (now (book .exit)) [] ≡ replanEffect (now (listing .entry)) (now (book .entry)) cell year ⌝ }
 {
     let v = may_replan(listing, &book[..], cell, year);
     match v {
@@ -152,9 +153,9 @@ pub fn replan(listing: &[u32], book: &mut [u32], cell: usize, year: u32) -> Outc
 
 // Marks a cell for good. What it has lost stays counted.
 pub fn withdraw(listing: &[u32], book: &mut [u32], cell: usize) -> Outcome
-    ensures { λ r. ⌜ leaves (outcome r) (now (book .exit)) [] ≡ withdrawing (now (listing .entry)) (now (book .entry)) cell ⌝ }
+    ensures { λ r. ⌜ effect (outcome r) (now (book .exit)) [] ≡ withdrawEffect (now (listing .entry)) (now (book .entry)) cell ⌝ }
 {
-    let v = stand(listing, &book[..], cell);
+    let v = admit_unwithdrawn(listing, &book[..], cell);
     match v {
         Outcome::Done => {
             let e = book::entry(BOOK, &book[..], cell);
@@ -167,7 +168,7 @@ pub fn withdraw(listing: &[u32], book: &mut [u32], cell: usize) -> Outcome
 
 // Pays out of the balance what was not issued before, in tonnes.
 pub fn issue(listing: &[u32], book: &mut [u32]) -> Amount
-    ensures { λ r. ⌜ leaves (amount r) (now (book .exit)) [] ≡ issuing (now (listing .entry)) (now (book .entry)) ⌝ }
+    ensures { λ r. ⌜ effect (amount r) (now (book .exit)) [] ≡ issueEffect (now (listing .entry)) (now (book .entry)) ⌝ }
 {
     let v = book::admit(BOOK, listing, &book[..]);
     match v {
@@ -181,14 +182,14 @@ pub fn issue(listing: &[u32], book: &mut [u32]) -> Amount
     }
 }
 
-fn account_of(listing: &[u32], book: &[u32], cell: usize) -> Account
-    requires { ⌜ Reached (now listing) (now book) cell ⌝ }
-    ensures { λ r. ⌜ r ≡ accountOf (now (listing .entry)) (now (book .entry)) cell ⌝ }
+fn figures_of(listing: &[u32], book: &[u32], cell: usize) -> CellFigures
+    requires { ⌜ AdmittedCell (now listing) (now book) cell ⌝ }
+    ensures { λ r. ⌜ r ≡ figuresOf (now (listing .entry)) (now (book .entry)) cell ⌝ }
 {
     let h = listing::head(listing);
     let c = listing::cell(listing, h, cell);
     let e = book::entry(BOOK, book, cell);
-    Account {
+    CellFigures {
         entered: c.entered,
         remaining: c.entered - (e.oxidised + e.burned),
         oxidised: e.oxidised,
@@ -199,12 +200,12 @@ fn account_of(listing: &[u32], book: &[u32], cell: usize) -> Account
     }
 }
 
-// Tells what the listing and the book say of a cell.
+// Answers what the listing and the book state of a cell.
 pub fn statement(listing: &[u32], book: &[u32], cell: usize) -> Stated
-    ensures { λ r. ⌜ statedAs r ≡ stating (now (listing .entry)) (now (book .entry)) cell ⌝ }
+    ensures { λ r. ⌜ stated r ≡ statementAnswer (now (listing .entry)) (now (book .entry)) cell ⌝ }
 {
-    match reach(listing, book, cell) {
-        Outcome::Done => Stated::Told(account_of(listing, book, cell)),
+    match admit_cell(listing, book, cell) {
+        Outcome::Done => Stated::Value(figures_of(listing, book, cell)),
         Outcome::Refused(why) => Stated::Refused(why),
     }
 }

@@ -4,7 +4,7 @@ use Prim.Native.Nat.{ℕ, _≤_}
 use native.Mathlib.Omega.{arith}
 use Rattle.words.specs.Answers.{Answer, accepted, refused}
 use Rattle.words.specs.Refusals.{tooFewWords, termNotAbove}
-use Rattle.words.proofs.Answers.{need-either, unfound-either}
+use Rattle.words.proofs.Answers.{need-either, need-none-either}
 use Rattle.listing.specs.Check.{wordsChecked, laterChecked, checked}
 
 -- so what holds of these holds of every answer of the check
@@ -15,7 +15,7 @@ checked-either P r a l =
     (need-either P _ 2 _ _ (r 2 _ (omega arith) (omega arith))
     (need-either P _ 2 _ _ (r 2 _ (omega arith) (omega arith))
     (need-either P _ 3 _ _ (r 3 _ (omega arith) (omega arith))
-    (unfound-either P 4 _ _ _ (r 4 _ (omega arith) (omega arith))
-    (unfound-either P 4 _ _ _ (r 4 _ (omega arith) (omega arith))
-    (unfound-either P 4 _ _ _ (r 4 _ (omega arith) (omega arith))
-    (unfound-either P 5 _ _ _ (r 5 _ (omega arith) (omega arith)) a)))))))
+    (need-none-either P 4 _ _ _ (r 4 _ (omega arith) (omega arith))
+    (need-none-either P 4 _ _ _ (r 4 _ (omega arith) (omega arith))
+    (need-none-either P 4 _ _ _ (r 4 _ (omega arith) (omega arith))
+    (need-none-either P 5 _ _ _ (r 5 _ (omega arith) (omega arith)) a)))))))

@@ -1,4 +1,4 @@
--- Document 01, "Project listing": where the words of a listing l stand. Check.antt names words 0 and 1 again, to refuse them at their places.
+-- Document 01, "Project listing": where the words of a listing l are. Check.antt names words 0 and 1 again, to refuse them at their places.
 use Prim.Native.Nat.{ℕ, _+_, _-_, _*_}
 use mathlib.Core.List.{List}
 use lib.ListN.{getD}
@@ -7,7 +7,7 @@ use Rattle.fields.specs.Words.{mostCells, mostStrata, mostHorizon, yearTerms}
 use Rattle.fields.specs.declared.Head.{Head}
 use Rattle.fields.specs.declared.Row.{Row}
 use Rattle.fields.specs.declared.Cell.{Cell}
-use Rattle.listing.specs.declared.Starts.{Starts}
+use Rattle.listing.specs.declared.Offsets.{Offsets}
 
 -- words 0 and 1, and their figures by name
 abbrev pub head : List ℕ → Head
@@ -41,16 +41,16 @@ abbrev pub mostTablesAt : ℕ
 mostTablesAt = 2
 
 -- the tables have for each stratum one word for each year of age; then come the cells; then the terms
-unfoldable pub startsOf : Head → Starts
-startsOf h =
+unfoldable pub offsetsOf : Head → Offsets
+offsetsOf h =
     record {
       tables = tablesAt h;
       cells = tablesAt h + h .strata * h .horizon;
       terms = tablesAt h + h .strata * h .horizon + cellWords * h .cells;
     }
 
-abbrev pub starts : List ℕ → Starts
-starts l = startsOf (head l)
+abbrev pub offsets : List ℕ → Offsets
+offsets l = offsetsOf (head l)
 
 -- the latest place where the terms begin, the most terms, 700, and the words of the longest listing
 abbrev pub mostTermsAt : ℕ
@@ -64,14 +64,14 @@ mostWords = mostTermsAt + mostTermWords
 
 -- the row of a stratum's table for a year of age, 1 to the horizon
 abbrev pub rowAt : List ℕ → ℕ → ℕ → ℕ
-rowAt l stratum age = starts l .tables + stratum * horizon l + (age - 1)
+rowAt l stratum age = offsets l .tables + stratum * horizon l + (age - 1)
 
 abbrev pub row : List ℕ → ℕ → ℕ → Row
 row l stratum age = rowOf (getD l (rowAt l stratum age) 0)
 
 -- cell i, by the first of its two words
 abbrev pub cellAt : List ℕ → ℕ → ℕ
-cellAt l i = starts l .cells + cellWords * i
+cellAt l i = offsets l .cells + cellWords * i
 
 abbrev pub cell : List ℕ → ℕ → Cell
 cell l i = cellOf (getD l (cellAt l i) 0) (getD l (cellAt l i + 1) 0)

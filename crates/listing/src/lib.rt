@@ -1,14 +1,14 @@
-// A project's listing: whether it is right, and where its words stand.
+// A project's listing: whether it is valid, and where its words are.
 ghost use mathlib.Core.Path.{_≡_};
 ghost use mathlib.Core.Bool.{true};
 ghost use Prim.Native.Nat.{_+_, _*_, _<_, _≤_};
 ghost use lib.ListN.{length};
-ghost use Rattle.words.specs.Search.{firstWrong};
+ghost use Rattle.words.specs.Search.{firstInvalid};
 ghost use Rattle.words.specs.Answers.{outcome};
-ghost use Rattle.fields.specs.Right.{SizesWithin};
-ghost use Rattle.listing.specs.Layout.{leastWords, head, cells, strata, horizon, startsOf, rowAt, row, cellAt, cell};
-ghost use Rattle.listing.specs.Check.{isCellWord, tableRight, cellRight, termRight, aboveRight, wordsChecked, laterChecked, checked};
-ghost use Rattle.listing.specs.Accepted.{InTurn, Accepted};
+ghost use Rattle.fields.specs.Valid.{SizesWithin};
+ghost use Rattle.listing.specs.Layout.{leastWords, head, cells, strata, horizon, offsetsOf, rowAt, row, cellAt, cell};
+ghost use Rattle.listing.specs.Check.{isCellWord, tableValid, cellValid, termValid, termAbove, wordsChecked, laterChecked, checked};
+ghost use Rattle.listing.specs.Accepted.{Contiguous, Accepted};
 use fields::Cell;
 use fields::Head;
 use fields::MOST_CELLS;
@@ -42,25 +42,25 @@ pub const MOST_WORDS: usize = TABLES_AT
     + YEAR_TERMS * MOST_HORIZON as usize;
 
 // Where the parts of a listing begin.
-pub struct Starts {
+pub struct Offsets {
     pub tables: usize,
     pub cells: usize,
     pub terms: usize,
 }
 
-fn is_cell_word(w: u32, strata: u32, horizon: u32, turn: usize) -> bool
-    ensures { λ r. ⌜ r ≡ isCellWord strata horizon turn w ⌝ }
+fn is_cell_word(w: u32, strata: u32, horizon: u32, offset: usize) -> bool
+    ensures { λ r. ⌜ r ≡ isCellWord strata horizon offset w ⌝ }
 {
-    if turn == 0 {
+    if offset == 0 {
         return fields::is_depth_word(w, strata, horizon);
     }
     fields::is_area_word(w)
 }
 
-// Whether every word of the tables is right: without a branch for each word, since most listings are.
-fn tables_clean(listing: &[u32], start: usize, end: usize) -> bool
+// Whether every word of the tables is valid: without a branch for each word, since most listings are.
+fn tables_valid(listing: &[u32], start: usize, end: usize) -> bool
     requires { ⌜ (start ≤ end) × (end ≤ length (now listing)) ⌝ }
-    ensures { λ r. ⌜ (r ≡ true → end ≡ firstWrong (tableRight (now (listing .entry))) start end) ⌝ }
+    ensures { λ r. ⌜ (r ≡ true → end ≡ firstInvalid (tableValid (now (listing .entry))) start end) ⌝ }
 {
     let mut faults: u32 = 0;
     let mut at = start;
@@ -71,12 +71,12 @@ fn tables_clean(listing: &[u32], start: usize, end: usize) -> bool
     is_kind(faults, 0)
 }
 
-// The first word of the tables that is not right; where there is none, `end`.
+// The first word of the tables that is invalid; where there is none, `end`.
 fn first_table(listing: &[u32], strata: usize, horizon: usize, start: usize, end: usize) -> usize
     requires { ⌜ (end ≡ start + strata * horizon) × (end ≤ length (now listing)) ⌝ }
-    ensures { λ r. ⌜ r ≡ firstWrong (tableRight (now (listing .entry))) start end ⌝ }
+    ensures { λ r. ⌜ r ≡ firstInvalid (tableValid (now (listing .entry))) start end ⌝ }
 {
-    if tables_clean(listing, start, end) {
+    if tables_valid(listing, start, end) {
         return end;
     }
     let mut at = start;
@@ -95,27 +95,27 @@ fn first_table(listing: &[u32], strata: usize, horizon: usize, start: usize, end
     at
 }
 
-// Whether every word of the cells is right, with a cell's two words in a turn and none left over.
-fn cells_clean(listing: &[u32], strata: u32, horizon: u32, start: usize, end: usize) -> bool
+// Whether every word of the cells is valid, with a cell's two words in an iteration and none over.
+fn cells_valid(listing: &[u32], strata: u32, horizon: u32, start: usize, end: usize) -> bool
     requires { ⌜ (start ≤ end) × (end ≤ length (now listing)) ⌝ }
-    ensures { λ r. ⌜ (r ≡ true → end ≡ firstWrong (cellRight (now (listing .entry)) strata horizon start) start end) ⌝ }
+    ensures { λ r. ⌜ (r ≡ true → end ≡ firstInvalid (cellValid (now (listing .entry)) strata horizon start) start end) ⌝ }
 {
-    let mut clean = true;
+    let mut valid = true;
     let mut at = start;
     while at + 1 < end {
-        clean = clean & fields::is_depth_word(listing[at], strata, horizon);
-        clean = clean & fields::is_area_word(listing[at + 1]);
+        valid = valid & fields::is_depth_word(listing[at], strata, horizon);
+        valid = valid & fields::is_area_word(listing[at + 1]);
         at += CELL_WORDS;
     }
-    clean & (at == end)
+    valid & (at == end)
 }
 
-// The first word of the cells that is not right; where there is none, `end`.
+// The first word of the cells that is invalid; where there is none, `end`.
 fn first_cell(listing: &[u32], strata: u32, horizon: u32, start: usize, end: usize) -> usize
     requires { ⌜ (start ≤ end) × (end ≤ length (now listing)) ⌝ }
-    ensures { λ r. ⌜ r ≡ firstWrong (cellRight (now (listing .entry)) strata horizon start) start end ⌝ }
+    ensures { λ r. ⌜ r ≡ firstInvalid (cellValid (now (listing .entry)) strata horizon start) start end ⌝ }
 {
-    if cells_clean(listing, strata, horizon, start, end) {
+    if cells_valid(listing, strata, horizon, start, end) {
         return end;
     }
     let mut at = start;
@@ -130,29 +130,31 @@ fn first_cell(listing: &[u32], strata: u32, horizon: u32, start: usize, end: usi
 
 // Whether there are terms, each of them valid and above the one before: without a branch for each
 // word, since most listings are.
-fn terms_clean(listing: &[u32], horizon: u32, start: usize) -> bool
+fn terms_valid(listing: &[u32], horizon: u32, start: usize) -> bool
     requires { ⌜ start ≤ length (now listing) ⌝ }
-    ensures { λ r. ⌜ (r ≡ true → (length (now (listing .entry)) ≡ firstWrong (termRight (now (listing .entry)) horizon) start (length (now (listing .entry)))) × (length (now (listing .entry)) ≡ firstWrong (aboveRight (now (listing .entry))) (start + 1) (length (now (listing .entry))))) ⌝ }
+    ensures { λ r. ⌜ (r ≡ true →
+        (length (now (listing .entry)) ≡ firstInvalid (termValid (now (listing .entry)) horizon) start (length (now (listing .entry))))
+        × (length (now (listing .entry)) ≡ firstInvalid (termAbove (now (listing .entry))) (start + 1) (length (now (listing .entry))))) ⌝ }
 {
     if listing.len() <= start {
         return false;
     }
-    let mut clean = fields::is_term_word(listing[start], horizon);
+    let mut valid = fields::is_term_word(listing[start], horizon);
     let mut last = fields::term_order(listing[start]);
     let mut at = start + 1;
     while at < listing.len() {
         let next = fields::term_order(listing[at]);
-        clean = clean & fields::is_term_word(listing[at], horizon) & (last < next);
+        valid = valid & fields::is_term_word(listing[at], horizon) & (last < next);
         last = next;
         at += 1;
     }
-    clean
+    valid
 }
 
-// The first term that is not right; where there is none, the length.
+// The first term that is invalid; where there is none, the length.
 fn first_term(listing: &[u32], horizon: u32, start: usize) -> usize
     requires { ⌜ start ≤ length (now listing) ⌝ }
-    ensures { λ r. ⌜ r ≡ firstWrong (termRight (now (listing .entry)) horizon) start (length (now (listing .entry))) ⌝ }
+    ensures { λ r. ⌜ r ≡ firstInvalid (termValid (now (listing .entry)) horizon) start (length (now (listing .entry))) ⌝ }
 {
     let mut at = start;
     while at < listing.len() {
@@ -168,7 +170,7 @@ fn first_term(listing: &[u32], horizon: u32, start: usize) -> usize
 // where there is no term.
 fn first_not_above(listing: &[u32], start: usize) -> usize
     requires { ⌜ start ≤ length (now listing) ⌝ }
-    ensures { λ r. ⌜ r ≡ firstWrong (aboveRight (now (listing .entry))) (start + 1) (length (now (listing .entry))) ⌝ }
+    ensures { λ r. ⌜ r ≡ firstInvalid (termAbove (now (listing .entry))) (start + 1) (length (now (listing .entry))) ⌝ }
 {
     let mut at = start + 1;
     while at < listing.len() {
@@ -180,7 +182,7 @@ fn first_not_above(listing: &[u32], start: usize) -> usize
     at
 }
 
-// What the head of a listing says.
+// The head of a listing.
 pub fn head(listing: &[u32]) -> Head
     requires { ⌜ leastWords ≤ length (now listing) ⌝ }
     ensures { λ r. ⌜ r ≡ head (now (listing .entry)) ⌝ }
@@ -189,12 +191,12 @@ pub fn head(listing: &[u32]) -> Head
 }
 
 // Where the parts begin in a listing of these sizes.
-pub fn starts_of(h: Head) -> Starts
+pub fn offsets_of(h: Head) -> Offsets
     requires { ⌜ SizesWithin h ⌝ }
-    ensures { λ r. ⌜ r ≡ startsOf h ⌝ }
+    ensures { λ r. ⌜ r ≡ offsetsOf h ⌝ }
 {
     let cells = TABLES_AT + (h.strata * h.horizon) as usize;
-    Starts {
+    Offsets {
         tables: TABLES_AT,
         cells,
         terms: cells + CELL_WORDS * h.cells as usize,
@@ -207,7 +209,7 @@ fn row_place(listing: &[u32], h: Head, stratum: u32, age: u32) -> usize
     requires { ⌜ Accepted (now listing) × (h ≡ head (now listing)) × (stratum < strata (now listing)) × (1 ≤ age) × (age ≤ horizon (now listing)) ⌝ }
     ensures { λ r. ⌜ (r ≡ rowAt (now (listing .entry)) stratum age) × (r < length (now (listing .entry))) ⌝ }
 {
-    let s = starts_of(h);
+    let s = offsets_of(h);
     s.tables + (stratum * h.horizon) as usize + (age - 1) as usize
 }
 
@@ -216,11 +218,11 @@ fn cell_place(listing: &[u32], h: Head, i: usize) -> usize
     requires { ⌜ Accepted (now listing) × (h ≡ head (now listing)) × (i < cells (now listing)) ⌝ }
     ensures { λ r. ⌜ (r ≡ cellAt (now (listing .entry)) i) × (r + 1 < length (now (listing .entry))) ⌝ }
 {
-    let s = starts_of(h);
+    let s = offsets_of(h);
     s.cells + CELL_WORDS * i
 }
 
-// What the table of a stratum says for a year of age.
+// The row of a stratum's table for a year of age.
 pub fn row(listing: &[u32], h: Head, stratum: u32, age: u32) -> Row
     requires { ⌜ Accepted (now listing) × (h ≡ head (now listing)) × (stratum < strata (now listing)) × (1 ≤ age) × (age ≤ horizon (now listing)) ⌝ }
     ensures { λ r. ⌜ r ≡ row (now (listing .entry)) stratum age ⌝ }
@@ -228,7 +230,7 @@ pub fn row(listing: &[u32], h: Head, stratum: u32, age: u32) -> Row
     fields::row_of(listing[row_place(listing, h, stratum, age)])
 }
 
-// What is said of cell `i`.
+// The figures of cell `i`.
 pub fn cell(listing: &[u32], h: Head, i: usize) -> Cell
     requires { ⌜ Accepted (now listing) × (h ≡ head (now listing)) × (i < cells (now listing)) ⌝ }
     ensures { λ r. ⌜ r ≡ cell (now (listing .entry)) i ⌝ }
@@ -238,8 +240,8 @@ pub fn cell(listing: &[u32], h: Head, i: usize) -> Cell
 }
 
 // Numbers 4 and 5, for the words after the head, whose parts begin at `s`.
-fn check_words(listing: &[u32], h: Head, s: Starts) -> Outcome
-    requires { ⌜ InTurn h s × (s .terms ≤ length (now listing)) ⌝ }
+fn check_words(listing: &[u32], h: Head, s: Offsets) -> Outcome
+    requires { ⌜ Contiguous h s × (s .terms ≤ length (now listing)) ⌝ }
     ensures { λ r. ⌜ outcome r ≡ wordsChecked (now (listing .entry)) h s ⌝ }
 {
     let table = first_table(
@@ -256,7 +258,7 @@ fn check_words(listing: &[u32], h: Head, s: Starts) -> Outcome
     if cell < s.terms {
         return refuse(LATER_WORD, cell);
     }
-    if terms_clean(listing, h.horizon, s.terms) {
+    if terms_valid(listing, h.horizon, s.terms) {
         return Outcome::Done;
     }
     let term = first_term(listing, h.horizon, s.terms);
@@ -271,8 +273,8 @@ fn check_words(listing: &[u32], h: Head, s: Starts) -> Outcome
 }
 
 // Number 3, and then the words.
-fn check_later(listing: &[u32], h: Head, s: Starts) -> Outcome
-    requires { ⌜ InTurn h s ⌝ }
+fn check_later(listing: &[u32], h: Head, s: Offsets) -> Outcome
+    requires { ⌜ Contiguous h s ⌝ }
     ensures { λ r. ⌜ outcome r ≡ laterChecked (now (listing .entry)) h s ⌝ }
 {
     if listing.len() < s.terms {
@@ -295,5 +297,5 @@ pub fn check(listing: &[u32]) -> Outcome
         return refuse(HEAD_WORD, 1);
     }
     let h = head(listing);
-    check_later(listing, h, starts_of(h))
+    check_later(listing, h, offsets_of(h))
 }

@@ -1,5 +1,5 @@
 -- A book with its cells in another order says the same, is refused alike, and stays in that order after each store that a call makes: all
--- that knows where a book's words stand. Assumes nothing.
+-- that knows where a book's words are. Assumes nothing.
 use mathlib.Core.Path.{_≡_, sym, ap, ap₂, _∙_}
 use mathlib.Core.Bool.{Bool, true, cond}
 use mathlib.Core.List.{List}
@@ -17,22 +17,22 @@ use Rattle.year.specs.declared.Entry.{Entry}
 use Rattle.book.specs.Current.{current, bookSize, issued, wordsOf, entry, withIssued, withPlan, fitted, bookChecked, Fitted}
 use Rattle.book.specs.Layout.{lineWords, year, planWord, heldWords}
 use Rattle.book.specs.Check as check
-use Rattle.book.specs.Sound.{Right}
+use Rattle.book.specs.Sound.{WordsValid}
 use Rattle.book.proofs.Numbers.{stored-same}
-use Rattle.book.proofs.Right.{named, placed}
-use Rattle.book.proofs.Sound.{shaped, fitted-room, words-sized}
+use Rattle.book.proofs.Valid.{named, placed}
+use Rattle.book.proofs.Sound.{shaped, fitted-cell, words-sized}
 use Rattle.book.proofs.Entries.{entry-word, year-by, issued-by, words-stored, words-put}
 use Rattle.book.proofs.New.{new-words, new-head}
 use Rattle.opening.specs.Opening.{openEntry, openBook}
 use Rattle.closing.specs.Closing.{bookAfter, linesAfter}
 use Rattle.closing.proofs.Closed.{line-word, after-words, after-head}
 use Rattle.order.specs.Order.{SameYear, Order, ListingMoved, BookMoved, LinesMoved, ButForPlace}
-use Rattle.order.proofs.Answers.{alike-same, AllRight, every-alike}
+use Rattle.order.proofs.Answers.{alike-same, AllValid, every-alike}
 use Rattle.order.proofs.Moved.{from-within, same-cell, moved-before, moved-back}
 use Rattle.order.proofs.OwnWords.{entry-same}
 use Rattle.order.proofs.Listings.{cells-is, horizon-is, cell-is, listing-back, checked-alike}
 
--- ---- what it says
+-- ---- what is read from it
 
 module _ {n : ℕ} {o : Order n} {b b′ : List ℕ} (e : BookMoved o b b′) where
   pub year-is : year b′ ≡ year b
@@ -64,29 +64,29 @@ module _ {n : ℕ} {o : Order n} {l l′ : List ℕ} (e : ListingMoved o l l′)
 
   module _ (b b′ : List ℕ) (long : length b′ ≡ length b) where
     pub fitted-alike : ButForPlace (fitted l b) (fitted l′ b′)
-    unfolding check.fitted check.roomChecked
+    unfolding check.fitted check.capacityChecked
     fitted-alike = after-both ButForPlace _ _ _ _ (sym (checked-alike e .done-is)) (checked-alike e) (λ done. rw (cells-is e, e .count, long) (alike-same _))
 
-    -- of a right listing a book is refused by number 6 alone, at its length
+    -- of a valid listing a book is refused by number 6 alone, at its length
     pub fitted-same : checked l .done ≡ true → fitted l′ b′ ≡ fitted l b
-    unfolding check.fitted check.roomChecked
-    fitted-same right = sym (after-is _ (checked l′) (checked-alike e .done-is ∙ right)) ∙ rw (cells-is e, long, ← (e .count)) (after-is _ (checked l) right)
+    unfolding check.fitted check.capacityChecked
+    fitted-same valid = sym (after-is _ (checked l′) (checked-alike e .done-is ∙ valid)) ∙ rw (cells-is e, long, ← (e .count)) (after-is _ (checked l) valid)
 
 -- ---- two books that fit
 
 module _ {n : ℕ} {o : Order n} {l l′ b b′ : List ℕ} (e : ListingMoved o l l′) (eb : BookMoved o b b′) (fits : Fitted l b) (fits′ : Fitted l′ b′) where
   words-are : (m : ℕ) → m < n → wordsOf b′ m ≡ wordsOf b (o .from m)
   words-are m lt =
-      let size = words-sized current b (o .from m) (fitted-room current l b fits (o .from m) (there e m lt)) in
-      let size′ = words-sized current b′ m (fitted-room current l′ b′ fits′ m (here e m lt)) in
+      let size = words-sized current b (o .from m) (fitted-cell current l b fits (o .from m) (there e m lt)) in
+      let size′ = words-sized current b′ m (fitted-cell current l′ b′ fits′ m (here e m lt)) in
       ext-getD 0 _ _ (size′ ∙ sym size)
       (λ k less.
       let in-cell : k < current .entry = omega arith in
       entry-word current b′ m k in-cell ∙ eb .block m lt k in-cell ∙ sym (entry-word current b (o .from m) k in-cell))
 
   -- number 8
-  right-moved : Right current l b → Right current l′ b′
-  right-moved r =
+  valid-moved : WordsValid current l b → WordsValid current l′ b′
+  valid-moved r =
       record {
         head-words = record { each = λ k lt. rw (horizon-is e, moved-before eb k lt) (r .head-words .each k lt) };
         entry-words = λ m lt.
@@ -94,13 +94,13 @@ module _ {n : ℕ} {o : Order n} {l l′ b b′ : List ℕ} (e : ListingMoved o 
             rw (cell-is e m less, words-are m less, e .head-is) (r .entry-words (o .from m) (there e m less));
       }
 
-  all-moved : AllRight (check.bookRight current l b) 0 (bookSize n) → AllRight (check.bookRight current l′ b′) 0 (bookSize n)
-  all-moved all k lo hi = placed current l′ b′ shaped (right-moved (named current l b (λ j less. all j zero-le (rw (e .count) at less)))) k (rw (cells-is e) hi)
+  all-moved : AllValid (check.bookValid current l b) 0 (bookSize n) → AllValid (check.bookValid current l′ b′) 0 (bookSize n)
+  all-moved all k lo hi = placed current l′ b′ shaped (valid-moved (named current l b (λ j less. all j zero-le (rw (e .count) at less)))) k (rw (cells-is e) hi)
 
   -- ---- each store
 
   front : (current .head ≤ length b) × (current .head ≤ length b′)
-  front = let room = fits .room in let room′ = fits′ .room in (omega arith, omega arith)
+  front = let capacity = fits .capacity in let room′ = fits′ .capacity in (omega arith, omega arith)
 
   -- of a cell's mark and plan year
   pub plan-moved : (k : ℕ) (new : Entry) → BookMoved o (withPlan b k new) (withPlan b′ (o .to k) new)
@@ -127,8 +127,8 @@ module _ {n : ℕ} {o : Order n} {l l′ b b′ : List ℕ} (e : ListingMoved o 
   pub closed-moved : ((m : ℕ) → m < n → SameYear l′ b′ m l b (o .from m)) → BookMoved o (bookAfter l b) (bookAfter l′ b′)
   closed-moved own =
       words-moved
-      (after-head l′ b′ (fits′ .room) l b (fits .room) (moved-before eb))
-      (λ m lt. after-words l′ b′ (fits′ .room) m (here e m lt) ∙ own m lt .words-are ∙ sym (after-words l b (fits .room) (o .from m) (there e m lt)))
+      (after-head l′ b′ (fits′ .capacity) l b (fits .capacity) (moved-before eb))
+      (λ m lt. after-words l′ b′ (fits′ .capacity) m (here e m lt) ∙ own m lt .words-are ∙ sym (after-words l b (fits .capacity) (o .from m) (there e m lt)))
 
 pub book-alike : {n : ℕ} {o : Order n} {l l′ b b′ : List ℕ} → ListingMoved o l l′ → BookMoved o b b′ → Fitted l b → Fitted l′ b′ → ButForPlace (bookChecked l b) (bookChecked l′ b′)
 unfolding check.bookChecked
@@ -137,7 +137,7 @@ book-alike e eb fits fits′ =
     (every-alike _ _ _ _ _ _ _ (all-moved e eb fits fits′) (all-moved (listing-back e) (moved-back eb) fits′ fits) (alike-same _))
 
 module _ {n : ℕ} {o : Order n} {l l′ : List ℕ} (e : ListingMoved o l l′) (b b′ : List ℕ) where
-  -- of a year's lines, over whatever stood in their buffers
+  -- of a year's lines, over whatever was in their buffers
   pub lines-moved : ((m : ℕ) → m < n → SameYear l′ b′ m l b (o .from m)) → (x y : List ℕ) → LinesMoved o (linesAfter l b x) (linesAfter l′ b′ y)
   lines-moved own x y =
       record {
@@ -149,7 +149,7 @@ module _ {n : ℕ} {o : Order n} {l l′ : List ℕ} (e : ListingMoved o l l′)
             ∙ sym (line-word l b x (o .from m) (there e m lt) k less));
       }
 
-  -- of a whole new book, over whatever stood there
+  -- of a whole new book, over whatever was there
   pub open-moved : fitted l b .done ≡ true → fitted l′ b′ .done ≡ true → BookMoved o (openBook l b) (openBook l′ b′)
   open-moved fits fits′ =
       words-moved

@@ -8,9 +8,9 @@ use lib.Dec.{ltb}
 use lib.ListN.{length}
 use borrow.Author.Tests.{lt-ltb}
 use Rattle.words.specs.Answers.{Answer, accepted, after}
-use Rattle.words.specs.Left.{written}
+use Rattle.words.specs.Effect.{written}
 use Rattle.words.proofs.Answers.{cond-both, after-both}
-use Rattle.words.proofs.Left.{written-new, written-both}
+use Rattle.words.proofs.Effect.{written-new, written-both}
 use Rattle.words.proofs.Signed.{by-less}
 use Rattle.fields.specs.declared.Head.{Head}
 use Rattle.fields.specs.declared.Cell.{Cell}
@@ -21,16 +21,18 @@ use Rattle.year.proofs.Laws.{converted}
 use Rattle.book.specs.Current.{current, entry, kgTo, fitted, bookChecked, admitted, Sound}
 use Rattle.book.specs.Layout.{year}
 use Rattle.book.specs.Check as check
-use Rattle.book.proofs.Right.{admitted-right, right-checked, fitted-is, checked-admits}
+use Rattle.book.proofs.Valid.{admitted-valid, valid-checked, fitted-is, checked-admits}
 use Rattle.book.proofs.Sound.{shaped, sound}
 use Rattle.book.proofs.Keeps.{admitted-fitted}
 use Rattle.balance.specs.Balance.{balanceIn, due, tonnesDue}
 use Rattle.balance.proofs.Bounds.{balance-by}
 use Rattle.closing.specs.Closing.{linesChecked, yearChecked, closeAnswer}
 use Rattle.closing.proofs.Closable.{year-checked-is, closable}
-use Rattle.ledger.specs.declared.Account.{Account}
-use Rattle.ledger.specs.Calls.{closing, cellChecked, reached, markChecked, standing, ahead, planChecked, replanAnswer, replanning, withdrawing, issueAnswer, issuing, Telling, noAccount, accountOf, stating, Call, Close, Replan, Withdraw, Issue, calling, lent}
-use Rattle.ledger.proofs.Reached.{reached-says, standing-says, replan-says}
+use Rattle.ledger.specs.declared.CellFigures.{CellFigures}
+use Rattle.ledger.specs.Calls.{closeEffect, cellChecked, admittedCell, markChecked, admittedUnwithdrawn, ahead, planChecked, replanAnswer, replanEffect, withdrawEffect}
+use Rattle.ledger.specs.Calls.{issueAnswer, issueEffect, StatementAnswer, noFigures, figuresOf, statementAnswer, Call, Close, Replan, Withdraw, Issue, callEffect}
+use Rattle.ledger.specs.Calls.{linesBuffer}
+use Rattle.ledger.proofs.AdmittedCell.{admitted-cell-accepted, unwithdrawn-accepted, replan-accepted}
 use Rattle.ledger.proofs.After.{call-admitted, call-admits}
 use Rattle.order.specs.Order.{SameYear, Order, Moved, ListingMoved, BookMoved, LinesMoved, moved, SameCall}
 use Rattle.order.proofs.Moved.{to-within, to-beyond, now-there, same-sum}
@@ -41,7 +43,8 @@ use Rattle.order.proofs.Books.{year-is, issued-is, entry-is, there, pla
 -- ---- what two calls leave
 
 -- two slices, where both calls are accepted, whatever was there
-pub written-moved : {n : ℕ} {o : Order n} {size at : ℕ} (a a′ : Answer) (old : List ℕ) {new : List ℕ} (old′ : List ℕ) {new′ : List ℕ} → a .done ≡ true → a′ .done ≡ true → Moved o size at new new′ → Moved o size at (written a old new) (written a′ old′ new′)
+pub written-moved : {n : ℕ} {o : Order n} {size at : ℕ} (a a′ : Answer) (old : List ℕ) {new : List ℕ} (old′ : List ℕ) {new′ : List ℕ} → a .done ≡ true → a′ .done ≡ true →
+    Moved o size at new new′ → Moved o size at (written a old new) (written a′ old′ new′)
 written-moved a a′ old {new} old′ {new′} done done′ e = rw (written-new a old new done, written-new a′ old′ new′ done′) e
 
 -- no lines
@@ -106,9 +109,9 @@ module _ {n : ℕ} {o : Order n} {l l′ b b′ : List ℕ} (v : Pair o l l′ b
   unfolding planChecked ahead
   plan-same k t lt = rw (here-entry k lt, year-is eb, horizon-is e)
 
-  account-same : (k : ℕ) → k < n → accountOf l′ b′ (o .to k) ≡ accountOf l b k
-  unfolding accountOf
-  account-same k lt = rw (here-cell k lt, here-entry k lt, e .head-is)
+  figures-same : (k : ℕ) → k < n → figuresOf l′ b′ (o .to k) ≡ figuresOf l b k
+  unfolding figuresOf
+  figures-same k lt = rw (here-cell k lt, here-entry k lt, e .head-is)
 
   -- ---- what is due
 
@@ -118,7 +121,8 @@ module _ {n : ℕ} {o : Order n} {l l′ b b′ : List ℕ} (v : Pair o l l′ b
   due-is : tonnesDue l′ b′ ≡ tonnesDue l b
   due-is =
       let balance-is : balanceIn l′ b′ ≡ balanceIn l b =
-      balance-by l′ l (year b′) (year b) (kgTo l′ b′) (kgTo l b) (year-is eb) (rw (cells-is e, e .count) (same-sum o (kgTo l b) (kgTo l′ b′) kg-is)) (ap (λ (h : Head). h .buffer) (e .head-is)) (terms-are e) in
+      balance-by l′ l (year b′) (year b) (kgTo l′ b′) (kgTo l b) (year-is eb) (rw (cells-is e, e .count) (same-sum o (kgTo l b) (kgTo l′ b′) kg-is))
+      (ap (λ (h : Head). h .buffer) (e .head-is)) (terms-are e) in
       ap₂ due balance-is (issued-is eb)
 
   -- ---- a year
@@ -130,30 +134,30 @@ module _ {n : ℕ} {o : Order n} {l l′ b b′ : List ℕ} (v : Pair o l l′ b
   own : (size : ℕ) → closeAnswer l b size .done ≡ true → (m : ℕ) → m < n → SameYear l′ b′ m l b (o .from m)
   own size done m lt =
       let s = closable l b size done in
-      let right = s .sound .fitted .accepted in
+      let valid = s .sound .fitted .accepted in
       let ahead = s .ahead in
       let years = year-is eb in
-      let stratum : cell l′ m .stratum < strata l = omega (arith, ap (λ (c : Cell). c .stratum) (cell-is e m lt), right .cell-right (o .from m) (there e m lt) .stratum) in
+      let stratum : cell l′ m .stratum < strata l = omega (arith, ap (λ (c : Cell). c .stratum) (cell-is e m lt), valid .cell-valid (o .from m) (there e m lt) .stratum) in
       own-words l′ b′ m l b (o .from m)
       (record {
         figures = figures;
         cell-words = rw (e .head-is) (e .cells-moved .block m lt);
         book-words = eb .block m lt;
         year-is = years;
-        own-row = λ past. row-is e right _ _ stratum (let within = converted _ _ past in (omega arith, omega arith));
+        own-row = λ past. row-is e valid _ _ stratum (let within = converted _ _ past in (omega arith, omega arith));
       })
 
   -- ---- of a book that a call accepts
 
   module _ (a : admitted l b .done ≡ true) where
-    right : Sound l b
-    right = sound current l b shaped a
+    valid : Sound l b
+    valid = sound current l b shaped a
 
-    right′ : Sound l′ b′
-    right′ = sound current l′ b′ shaped (v .admits a)
+    valid′ : Sound l′ b′
+    valid′ = sound current l′ b′ shaped (v .admits a)
 
     year-same : yearChecked l′ b′ ≡ yearChecked l b
-    year-same = year-checked-is l′ b′ right′ ∙ rw (year-is eb, horizon-is e) (sym (year-checked-is l b right))
+    year-same = year-checked-is l′ b′ valid′ ∙ rw (year-is eb, horizon-is e) (sym (year-checked-is l b valid))
 
     -- 1 to 8 are passed on both
     pub equally : Related (λ x x′. x′ ≡ x) l l′ b b′
@@ -163,33 +167,33 @@ module _ {n : ℕ} {o : Order n} {l l′ b b′ : List ℕ} (v : Pair o l l′ b
           same = λ x. refl;
           both-done = λ x x′ q. ap (λ (y : Answer). y .done) (sym q);
           fits = fitted-is current l′ b′ (admitted-fitted current l′ b′ a′) ∙ sym (fitted-is current l b (admitted-fitted current l b a));
-          checks = λ fits. right-checked current l′ b′ shaped (admitted-right current l′ b′ a′) ∙ sym (right-checked current l b shaped (admitted-right current l b a));
+          checks = λ fits. valid-checked current l′ b′ shaped (admitted-valid current l′ b′ a′) ∙ sym (valid-checked current l b shaped (admitted-valid current l b a));
         }
 
   -- ---- every answer
 
   module _ {R : Answer → Answer → Type 0} (r : Related R l l′ b b′) where
-    pub reached-by : (k : ℕ) → R (reached l b k) (reached l′ b′ (o .to k))
-    unfolding reached
-    reached-by k = next r (admitted-by r) (λ done. equal r (cell-same k))
+    pub admitted-cell-by : (k : ℕ) → R (admittedCell l b k) (admittedCell l′ b′ (o .to k))
+    unfolding admittedCell
+    admitted-cell-by k = next r (admitted-by r) (λ done. equal r (cell-same k))
 
-    standing-by : (k : ℕ) → R (standing l b k) (standing l′ b′ (o .to k))
-    unfolding standing
-    standing-by k = next r (reached-by k) (λ done. equal r (mark-same k (rw (e .count) at (reached-says l b k done .there))))
+    unwithdrawn-by : (k : ℕ) → R (admittedUnwithdrawn l b k) (admittedUnwithdrawn l′ b′ (o .to k))
+    unfolding admittedUnwithdrawn
+    unwithdrawn-by k = next r (admitted-cell-by k) (λ done. equal r (mark-same k (rw (e .count) at (admitted-cell-accepted l b k done .there))))
 
     close-by : (size : ℕ) → R (closeAnswer l b size) (closeAnswer l′ b′ size)
     unfolding closeAnswer linesChecked
     close-by size =
         next r (r .fits)
         (λ fits. next r (equal r (rw (cells-is e, e .count)))
-        (λ room. next r (r .checks fits)
+        (λ capacity. next r (r .checks fits)
         (λ checked. equal r (year-same (checked-admits current l b fits checked)))))
 
-    pub call-by : (c : Call) (y : List ℕ) → length y ≡ length (lent c) → R (calling l b c .answer) (calling l′ b′ (moved o y c) .answer)
-    unfolding closing replanning replanAnswer withdrawing issuing issueAnswer
+    pub call-by : (c : Call) (y : List ℕ) → length y ≡ length (linesBuffer c) → R (callEffect l b c .answer) (callEffect l′ b′ (moved o y c) .answer)
+    unfolding closeEffect replanEffect replanAnswer withdrawEffect issueEffect issueAnswer
     call-by (Close x) y long = rw long (close-by (length x))
-    call-by (Replan k t) y long = next r (standing-by k) (λ done. equal r (plan-same k t (rw (e .count) at (standing-says l b k done .there))))
-    call-by (Withdraw k) y long = standing-by k
+    call-by (Replan k t) y long = next r (unwithdrawn-by k) (λ done. equal r (plan-same k t (rw (e .count) at (unwithdrawn-accepted l b k done .there))))
+    call-by (Withdraw k) y long = unwithdrawn-by k
     call-by Issue y long = next r (admitted-by r) (λ done. equal r (ap accepted due-is))
 
   -- ---- every call that is accepted in both or in none
@@ -197,25 +201,26 @@ module _ {n : ℕ} {o : Order n} {l l′ b b′ : List ℕ} (v : Pair o l l′ b
   both : (a a′ : Answer) {new new′ : List ℕ} → a′ .done ≡ a .done → (a .done ≡ true → BookMoved o new new′) → BookMoved o (written a b new) (written a′ b′ new′)
   both a a′ alike f = written-both (BookMoved o) a a′ b _ b′ _ (sym alike) eb f
 
-  pub book-same : (c : Call) (y : List ℕ) → calling l′ b′ (moved o y c) .answer .done ≡ calling l b c .answer .done → BookMoved o (calling l b c .book) (calling l′ b′ (moved o y c) .book)
-  unfolding closing replanning withdrawing issuing
-  book-same (Close x) y alike = both _ _ alike (λ done. let a = call-admitted l b (Close x) done in closed-moved e eb (right a .fitted) (right′ a .fitted) (own (length x) done))
+  pub book-same : (c : Call) (y : List ℕ) → callEffect l′ b′ (moved o y c) .answer .done ≡ callEffect l b c .answer .done → BookMoved o (callEffect l b c .book) (callEffect l′ b′ (moved o y c) .book)
+  unfolding closeEffect replanEffect withdrawEffect issueEffect
+  book-same (Close x) y alike = both _ _ alike (λ done. let a = call-admitted l b (Close x) done in closed-moved e eb (valid a .fitted) (valid′ a .fitted) (own (length x) done))
   book-same (Replan k t) y alike =
       both _ _ alike
       (λ done.
-      let (r, in-time) = replan-says l b k t done in
-      rw (here-entry k (rw (e .count) at (r .there))) (plan-moved e eb (r .sound .fitted) (right′ (r .admits) .fitted) k (planned (entry b k) t)))
+      let (r, in-time) = replan-accepted l b k t done in
+      rw (here-entry k (rw (e .count) at (r .there))) (plan-moved e eb (r .sound .fitted) (valid′ (r .admits) .fitted) k (planned (entry b k) t)))
   book-same (Withdraw k) y alike =
       both _ _ alike
       (λ done.
-      let r = standing-says l b k done in
-      rw (here-entry k (rw (e .count) at (r .there))) (plan-moved e eb (r .sound .fitted) (right′ (r .admits) .fitted) k (marked (entry b k))))
+      let r = unwithdrawn-accepted l b k done in
+      rw (here-entry k (rw (e .count) at (r .there))) (plan-moved e eb (r .sound .fitted) (valid′ (r .admits) .fitted) k (marked (entry b k))))
   book-same Issue y alike =
       both _ _ alike
-      (λ done. let a = call-admitted l b Issue done in rw (due-is, issued-is eb) (issued-moved e eb (right a .fitted) (right′ a .fitted) _))
+      (λ done. let a = call-admitted l b Issue done in rw (due-is, issued-is eb) (issued-moved e eb (valid a .fitted) (valid′ a .fitted) _))
 
-  lines-same : (c : Call) (y : List ℕ) → calling l′ b′ (moved o y c) .answer .done ≡ calling l b c .answer .done → calling l b c .answer .done ≡ true → LinesMoved o (calling l b c .output) (calling l′ b′ (moved o y c) .output)
-  unfolding closing replanning withdrawing issuing
+  lines-same : (c : Call) (y : List ℕ) → callEffect l′ b′ (moved o y c) .answer .done ≡ callEffect l b c .answer .done → callEffect l b c .answer .done ≡ true →
+      LinesMoved o (callEffect l b c .output) (callEffect l′ b′ (moved o y c) .output)
+  unfolding closeEffect replanEffect withdrawEffect issueEffect
   lines-same (Close x) y alike done = written-moved _ _ x y done (alike ∙ done) (lines-moved e b b′ (own (length x) done) x y)
   lines-same (Replan k t) y alike done = none-moved
   lines-same (Withdraw k) y alike done = none-moved
@@ -224,33 +229,35 @@ module _ {n : ℕ} {o : Order n} {l l′ b b′ : List ℕ} (v : Pair o l l′ b
   -- ---- all that is claimed of a call on a book that a call accepts
 
   module _ (a : admitted l b .done ≡ true) where
-    pub told-same : (k : ℕ) → stating l′ b′ (o .to k) ≡ stating l b k
-    unfolding stating
-    told-same k =
-        let same : reached l′ b′ (o .to k) ≡ reached l b k = reached-by (equally a) k in
+    pub statement-same : (k : ℕ) → statementAnswer l′ b′ (o .to k) ≡ statementAnswer l b k
+    unfolding statementAnswer
+    statement-same k =
+        let same : admittedCell l′ b′ (o .to k) ≡ admittedCell l b k = admitted-cell-by (equally a) k in
         rw same
-        (ap (tell (reached l b k))
-        (cond-both (λ x x′. x′ ≡ x) (reached l b k .done) (reached l b k .done) _ noAccount _ noAccount refl (λ done. account-same k (rw (e .count) at (reached-says l b k done .there))) (λ refused. refl)))
+        (ap (answerOf (admittedCell l b k))
+        (cond-both (λ x x′. x′ ≡ x) (admittedCell l b k .done) (admittedCell l b k .done) _ noFigures _ noFigures refl
+        (λ done. figures-same k (rw (e .count) at (admitted-cell-accepted l b k done .there))) (λ refused. refl)))
       where
-        tell : Answer → Account → Telling
-        tell x c = record { answer = x; account = c }
+        answerOf : Answer → CellFigures → StatementAnswer
+        answerOf x c = record { answer = x; figures = c }
 
-    module _ (c : Call) (y : List ℕ) (long : length y ≡ length (lent c)) where
-      answer-same : calling l′ b′ (moved o y c) .answer ≡ calling l b c .answer
+    module _ (c : Call) (y : List ℕ) (long : length y ≡ length (linesBuffer c)) where
+      answer-same : callEffect l′ b′ (moved o y c) .answer ≡ callEffect l b c .answer
       answer-same = call-by (equally a) c y long
 
-      alike : calling l′ b′ (moved o y c) .answer .done ≡ calling l b c .answer .done
+      alike : callEffect l′ b′ (moved o y c) .answer .done ≡ callEffect l b c .answer .done
       alike = ap (λ (x : Answer). x .done) answer-same
 
-      pub pair-next : Pair o l l′ (calling l b c .book) (calling l′ b′ (moved o y c) .book)
+      pub pair-next : Pair o l l′ (callEffect l b c .book) (callEffect l′ b′ (moved o y c) .book)
       pair-next = record { listing = e; book = book-same c y alike; admits = λ then. call-admits l′ b′ (moved o y c) (v .admits a) }
 
 -- what a call leaves
-pub same-call : {n : ℕ} {o : Order n} {l l′ b b′ : List ℕ} (v : Pair o l l′ b b′) → admitted l b .done ≡ true → (c : Call) (y : List ℕ) → length y ≡ length (lent c) → SameCall o l l′ (calling l b c) (calling l′ b′ (moved o y c))
+pub same-call : {n : ℕ} {o : Order n} {l l′ b b′ : List ℕ} (v : Pair o l l′ b b′) → admitted l b .done ≡ true → (c : Call) (y : List ℕ) →
+    length y ≡ length (linesBuffer c) → SameCall o l l′ (callEffect l b c) (callEffect l′ b′ (moved o y c))
 same-call {l = l} {b = b} v a c y long =
     record {
       answer-is = answer-same v a c y long;
       book-moved = book-same v c y (alike v a c y long);
       lines-moved = lines-same v c y (alike v a c y long);
-      told = told-same (pair-next v a c y long) (call-admits l b c a);
+      statement-is = statement-same (pair-next v a c y long) (call-admits l b c a);
     }

@@ -5,12 +5,12 @@ use mathlib.Core.List.{List, [], _∷_}
 use Prim.Native.Nat.{ℕ}
 use lib.ListN.{length}
 use Rattle.book.specs.Current.{current, admitted}
-use Rattle.book.proofs.Right.{fitted-is}
-use Rattle.ledger.specs.Calls.{opening, Call}
-use Rattle.ledger.proofs.After.{opened-says, call-admits}
+use Rattle.book.proofs.Valid.{fitted-is}
+use Rattle.ledger.specs.Calls.{openEffect, Call}
+use Rattle.ledger.proofs.After.{opened-holds, call-admits}
 use Rattle.order.specs.Order.{Order, ListingMoved, SameCalls, EveryOrder, EveryOrderFrom}
 use Rattle.order.proofs.Books.{fitted-alike, open-moved}
-use Rattle.order.proofs.Calls.{written-moved, none-moved, Pair, told-same, pair-next, same-call}
+use Rattle.order.proofs.Calls.{written-moved, none-moved, Pair, statement-same, pair-next, same-call}
 use Rattle.order.proofs.EveryBook.{pair-alike}
 
 -- ---- a list of calls
@@ -25,24 +25,24 @@ every-order-from n o l b l′ b′ p admits calls = same-calls o l l′ b b′ (
 
 -- ---- an open
 
-module _ {n : ℕ} {o : Order n} {l l′ : List ℕ} (e : ListingMoved o l l′) (b b′ : List ℕ) (long : length b′ ≡ length b) (done : opening l b .answer .done ≡ true) where
-  pub opens : opening l′ b′ .answer .done ≡ true
-  unfolding opening
+module _ {n : ℕ} {o : Order n} {l l′ : List ℕ} (e : ListingMoved o l l′) (b b′ : List ℕ) (long : length b′ ≡ length b) (done : openEffect l b .answer .done ≡ true) where
+  pub opens : openEffect l′ b′ .answer .done ≡ true
+  unfolding openEffect
   opens = fitted-alike e b b′ long .done-is ∙ done
 
-  open-same : opening l′ b′ .answer ≡ opening l b .answer
-  unfolding opening
+  open-same : openEffect l′ b′ .answer ≡ openEffect l b .answer
+  unfolding openEffect
   open-same = rw (fitted-is current l′ b′ opens, fitted-is current l b done)
 
-  pub pair-opened : Pair o l l′ (opening l b .book) (opening l′ b′ .book)
-  unfolding opening
-  pair-opened = record { listing = e; book = written-moved _ _ b b′ done opens (open-moved e b b′ done opens); admits = λ a. opened-says l′ b′ opens .admits }
+  pub pair-opened : Pair o l l′ (openEffect l b .book) (openEffect l′ b′ .book)
+  unfolding openEffect
+  pair-opened = record { listing = e; book = written-moved _ _ b b′ done opens (open-moved e b b′ done opens); admits = λ a. opened-holds l′ b′ opens .admits }
 
 pub every-order : EveryOrder
-unfolding opening
+unfolding openEffect
 every-order n o l b l′ b′ e long done =
     let v = pair-opened e b b′ long done in
-    let admits = opened-says l b done .admits in (
-      record { answer-is = open-same e b b′ long done; book-moved = v .book; lines-moved = λ h. none-moved; told = told-same v admits },
+    let admits = opened-holds l b done .admits in (
+      record { answer-is = open-same e b b′ long done; book-moved = v .book; lines-moved = λ h. none-moved; statement-is = statement-same v admits },
       same-calls o l l′ _ _ v admits,
     )

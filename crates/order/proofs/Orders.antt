@@ -1,4 +1,4 @@
--- Two cells that change places are an order; for every right listing there is one with its cells in another order; and lines in another
+-- Two cells that change places are an order; for every valid listing there is one with its cells in another order; and lines in another
 -- order come to the same. Assumes nothing.
 use mathlib.Core.Path.{_≡_, refl, ap, ap₂, _∙_}
 use mathlib.Core.List.{List, [], _∷_}
@@ -12,14 +12,14 @@ use Rattle.words.specs.Blocks.{filled}
 use Rattle.words.proofs.Signed.{by-test}
 use Rattle.words.proofs.Blocks.{length-filled, filled-before, filled-word, filled-behind}
 use Rattle.fields.specs.Fields.{headOf}
-use Rattle.listing.specs.Layout.{cells, cellWords, starts, cellAt}
+use Rattle.listing.specs.Layout.{cells, cellWords, offsets, cellAt}
 use Rattle.listing.proofs.Accepted.{accepted}
-use Rattle.book.specs.Layout.{lineWords, number, lineAt}
+use Rattle.book.specs.Layout.{lineWords, payload, lineAt}
 use Rattle.order.specs.Order.{SameTotals, EveryListing, origin, Exchanges}
 use Rattle.order.proofs.Moved.{same-sum}
 
 pub same-totals : SameTotals
-same-totals n o x y e line lt = same-sum o (lineAt line x) (lineAt line y) (λ m less. ap number (rw (zero-add (lineWords * m), zero-add (lineWords * o .from m)) at (e .block m less line lt)))
+same-totals n o x y e line lt = same-sum o (lineAt line x) (lineAt line y) (λ m less. ap payload (rw (zero-add (lineWords * m), zero-add (lineWords * o .from m)) at (e .block m less line lt)))
 
 -- ---- a listing
 
@@ -38,25 +38,25 @@ two-word l k (suc zero) lt = refl
 two-word l k (suc (suc j)) lt = absurd (omega arith)
 
 pub every-listing : EveryListing
-every-listing n o l count right =
-    let long = accepted l right .long in
-    let parts = accepted l right .parts in
-    let start : ℕ = starts l .cells in
+every-listing n o l count valid =
+    let long = accepted l valid .long in
+    let parts = accepted l valid .parts in
+    let start : ℕ = offsets l .cells in
     let f : ℕ → List ℕ = λ m. two l (cellAt l (o .from m)) in
     let sized : (m : ℕ) → length (f m) ≡ cellWords = λ m. two-length l (cellAt l (o .from m)) in
-    let room : start ≤ length l = omega arith in
-    let before : (k : ℕ) → k < start → getD (filled cellWords l start f n) k 0 ≡ getD l k 0 = filled-before cellWords l start f sized room n in
+    let capacity : start ≤ length l = omega arith in
+    let before : (k : ℕ) → k < start → getD (filled cellWords l start f n) k 0 ≡ getD l k 0 = filled-before cellWords l start f sized capacity n in
     record {
       listing = filled cellWords l start f n;
       is = record {
         count = count;
         head-is = ap₂ headOf (before 0 (omega arith)) (before 1 (omega arith));
-        length-is = length-filled cellWords l start f sized room n (omega arith);
+        length-is = length-filled cellWords l start f sized capacity n (omega arith);
         cells-moved = record {
           before = λ k lt. rw zero-add (before k lt);
-          block = λ m lt k less. filled-word cellWords l start f sized room n m k lt less ∙ two-word l (cellAt l (o .from m)) k less;
+          block = λ m lt k less. filled-word cellWords l start f sized capacity n m k lt less ∙ two-word l (cellAt l (o .from m)) k less;
         };
-        terms-same = λ k le. filled-behind cellWords l start f sized room n k (omega arith);
+        terms-same = λ k le. filled-behind cellWords l start f sized capacity n k (omega arith);
       };
     }
 

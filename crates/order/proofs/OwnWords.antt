@@ -1,4 +1,4 @@
--- A cell's year goes by its own words. Assumes nothing.
+-- A cell's year depends on its own words. Assumes nothing.
 use mathlib.Core.Path.{_≡_, sym, ap₂, _∙_}
 use mathlib.Core.List.{List}
 use Prim.Native.Nat.{ℕ, _+_, _<_}
@@ -6,7 +6,7 @@ use native.Mathlib.Nat.{add-zero}
 use native.Mathlib.Omega.{arith}
 use Rattle.fields.specs.Fields.{cellOf}
 use Rattle.listing.specs.Layout.{cellWords, row, cellAt, cell}
-use Rattle.year.specs.Year.{grown}
+use Rattle.year.specs.Year.{afterLoss}
 use Rattle.year.specs.declared.Entry.{Entry}
 use Rattle.year.specs.declared.Loss.{Loss}
 use Rattle.year.proofs.Laws.{loss-by-figures}
@@ -37,6 +37,6 @@ own-words l b i l′ b′ i′ same =
     ∙ rw (cell-same l l′ i i′ (same .cell-words), own-entry, same .year-is) in
     record {
       loss-is = lost;
-      words-are = ap₂ (λ (e : Entry) (s : Loss). heldWords (current .entry) (grown e s)) own-entry lost;
+      words-are = ap₂ (λ (e : Entry) (s : Loss). heldWords (current .entry) (afterLoss e s)) own-entry lost;
       lines-are = rw lost;
     }

@@ -1,5 +1,5 @@
 -- Beyond document 01, about a fault that users met (a release took the table row of the cell before, and a site that sorted its cells
--- otherwise got another total): a cell's year goes by its own words, and so no call goes by the order of the cells. `OwnWords`, `EveryOrder`,
+-- otherwise got another total): a cell's year depends on its own words, and so no call depends on the order of the cells. `OwnWords`, `EveryOrder`,
 -- `EveryBook` and `EveryForecast` are proved in the file of that name in proofs/, `SameTotals`, `EveryListing` and `Exchanges` in Orders.antt.
 use mathlib.Core.Path.{_≡_}
 use mathlib.Core.Bool.{true, false, cond}
@@ -8,17 +8,17 @@ use Prim.Native.Nat.{ℕ, _+_, _*_, _≤_, _<_}
 use lib.Dec.{eqb}
 use lib.ListN.{length, getD}
 use Rattle.words.specs.Answers.{Answer}
-use Rattle.words.specs.Left.{Left}
+use Rattle.words.specs.Effect.{Effect}
 use Rattle.words.specs.Sums.{sumBelow}
-use Rattle.listing.specs.Layout.{head, cells, horizon, cellWords, starts, row, cellAt, cell}
+use Rattle.listing.specs.Layout.{head, cells, horizon, cellWords, offsets, row, cellAt, cell}
 use Rattle.listing.specs.Check.{checked}
 use Rattle.year.specs.Year.{unconverted, age}
 use Rattle.year.specs.Fit.{SameFigures}
 use Rattle.book.specs.Current.{current, entryAt, entry, admitted}
 use Rattle.book.specs.Layout.{lineWords, year, lineAt}
 use Rattle.closing.specs.Closing.{loss, closedWords, closedLines}
-use Rattle.ledger.specs.Calls.{opening, stating, Call, Close, Replan, Withdraw, Issue, calling, lent}
-use Rattle.forecast.specs.Forecast.{forecasting}
+use Rattle.ledger.specs.Calls.{openEffect, statementAnswer, Call, Close, Replan, Withdraw, Issue, callEffect, linesBuffer}
+use Rattle.forecast.specs.Forecast.{forecastEffect}
 
 -- the n words of x from place p on are those of y from place q on
 abbrev pub SameWords : ℕ → List ℕ → ℕ → List ℕ → ℕ → Type 0
@@ -51,7 +51,7 @@ OwnWords = (l b : List ℕ) (i : ℕ) (l′ b′ : List ℕ) (i′ : ℕ) → Sa
 
 -- ---- another order of the cells
 
--- an order of n cells: at place m now stands what stood at `from m`, and what stood at k now stands at `to k`; only cells change places
+-- an order of n cells: at place m now is what was at `from m`, and what was at k now is at `to k`; only cells change places
 pub record Order (n : ℕ) : Type 0 where
   pub from : ℕ → ℕ
   pub to : ℕ → ℕ
@@ -69,10 +69,10 @@ pub record ListingMoved {n : ℕ} (o : Order n) (l l′ : List ℕ) : Type 0 whe
   pub count : cells l ≡ n
   pub head-is : head l′ ≡ head l
   pub length-is : length l′ ≡ length l
-  pub cells-moved : Moved o cellWords (starts l .cells) l l′
-  pub terms-same : (k : ℕ) → starts l .terms ≤ k → getD l′ k 0 ≡ getD l k 0
+  pub cells-moved : Moved o cellWords (offsets l .cells) l l′
+  pub terms-same : (k : ℕ) → offsets l .terms ≤ k → getD l′ k 0 ≡ getD l k 0
 
--- a book and a lines buffer, as far as the cells' words go: what stands behind them is no matter
+-- a book and a lines buffer, as far as the cells' words go: what follows them does not matter
 abbrev pub BookMoved : {n : ℕ} → Order n → List ℕ → List ℕ → Type 0
 BookMoved o = Moved o (current .entry) (current .head)
 
@@ -87,7 +87,7 @@ pub record ProjectMoved {n : ℕ} (o : Order n) (l b l′ b′ : List ℕ) : Typ
 
 -- ---- the same calls
 
--- the call on l′: of the same cell, where it now stands, and a closing with a lines buffer y
+-- the call on l′: of the same cell, where it now is, and a closing with a lines buffer y
 abbrev pub moved : {n : ℕ} → Order n → List ℕ → Call → Call
 moved o y (Close x) = Close y
 moved o y (Replan k t) = Replan (o .to k) t
@@ -95,26 +95,26 @@ moved o y (Withdraw k) = Withdraw (o .to k)
 moved o y Issue = Issue
 
 -- what a call left on l and on l′: the same answer, and so the same number and place of a refusal and the same tonnes; the book in that
--- order, and the lines of an accepted closing; and then a statement of each cell is the same, where it now stands
-pub record SameCall {n : ℕ} (o : Order n) (l l′ : List ℕ) (m m′ : Left) : Type 0 where
+-- order, and the lines of an accepted closing; and then a statement of each cell is the same, where it now is
+pub record SameCall {n : ℕ} (o : Order n) (l l′ : List ℕ) (m m′ : Effect) : Type 0 where
   pub answer-is : m′ .answer ≡ m .answer
   pub book-moved : BookMoved o (m .book) (m′ .book)
   pub lines-moved : m .answer .done ≡ true → LinesMoved o (m .output) (m′ .output)
-  pub told : (k : ℕ) → stating l′ (m′ .book) (o .to k) ≡ stating l (m .book) k
+  pub statement-is : (k : ℕ) → statementAnswer l′ (m′ .book) (o .to k) ≡ statementAnswer l (m .book) k
 
 -- so at every call of a list, whatever a lines buffer y on l′ holds that is as long as the one on l
 unfoldable pub SameCalls : {n : ℕ} → Order n → List ℕ → List ℕ → List ℕ → List ℕ → List Call → Type 0
 SameCalls o l l′ b b′ [] = Unit {0}
 SameCalls o l l′ b b′ (c ∷ calls) =
-    (y : List ℕ) → length y ≡ length (lent c) →
-    SameCall o l l′ (calling l b c) (calling l′ b′ (moved o y c)) × SameCalls o l l′ (calling l b c .book) (calling l′ b′ (moved o y c) .book) calls
+    (y : List ℕ) → length y ≡ length (linesBuffer c) →
+    SameCall o l l′ (callEffect l b c) (callEffect l′ b′ (moved o y c)) × SameCalls o l l′ (callEffect l b c .book) (callEffect l′ b′ (moved o y c) .book) calls
 
 -- THE THEOREM: for every order of the cells of every listing that open accepts with a book b, with every book b′ as long as b, and every
 -- list of calls, refused ones included
 abbrev pub EveryOrder : Type 0
 EveryOrder =
-    (n : ℕ) (o : Order n) (l b l′ b′ : List ℕ) → ListingMoved o l l′ → length b′ ≡ length b → opening l b .answer .done ≡ true →
-    SameCall o l l′ (opening l b) (opening l′ b′) × ((calls : List Call) → SameCalls o l l′ (opening l b .book) (opening l′ b′ .book) calls)
+    (n : ℕ) (o : Order n) (l b l′ b′ : List ℕ) → ListingMoved o l l′ → length b′ ≡ length b → openEffect l b .answer .done ≡ true →
+    SameCall o l l′ (openEffect l b) (openEffect l′ b′) × ((calls : List Call) → SameCalls o l l′ (openEffect l b .book) (openEffect l′ b′ .book) calls)
 
 -- the same from any book that a call accepts
 abbrev pub EveryOrderFrom : Type 0
@@ -127,14 +127,14 @@ pub record ButForPlace (a a′ : Answer) : Type 0 where
   pub number-is : a′ .number ≡ a .number
   pub value-is : a′ .value ≡ a .value
 
--- any listing and any book, right or wrong: a call is refused in every order or in none, by the same number. The place may be another: it
--- is that of the first wrong word, and which of two wrong cells is first goes by the order
+-- any listing and any book, valid or not: a call is refused in every order or in none, by the same number. The place may be another: it
+-- is that of the first invalid word, and which of two invalid cells is first depends on the order
 pub record RefusedAlike {n : ℕ} (o : Order n) (l b l′ b′ : List ℕ) : Type 0 where
-  pub opened : ButForPlace (opening l b .answer) (opening l′ b′ .answer)
-  pub called : (c : Call) (y : List ℕ) → length y ≡ length (lent c) → ButForPlace (calling l b c .answer) (calling l′ b′ (moved o y c) .answer)
-  pub book-moved : (c : Call) (y : List ℕ) → length y ≡ length (lent c) → BookMoved o (calling l b c .book) (calling l′ b′ (moved o y c) .book)
-  pub stated : (k : ℕ) → ButForPlace (stating l b k .answer) (stating l′ b′ (o .to k) .answer)
-  pub forecasted : (x x′ : List ℕ) → length x′ ≡ length x → ButForPlace (forecasting l b x .answer) (forecasting l′ b′ x′ .answer)
+  pub opened : ButForPlace (openEffect l b .answer) (openEffect l′ b′ .answer)
+  pub called : (c : Call) (y : List ℕ) → length y ≡ length (linesBuffer c) → ButForPlace (callEffect l b c .answer) (callEffect l′ b′ (moved o y c) .answer)
+  pub book-moved : (c : Call) (y : List ℕ) → length y ≡ length (linesBuffer c) → BookMoved o (callEffect l b c .book) (callEffect l′ b′ (moved o y c) .book)
+  pub stated : (k : ℕ) → ButForPlace (statementAnswer l b k .answer) (statementAnswer l′ b′ (o .to k) .answer)
+  pub forecasted : (x x′ : List ℕ) → length x′ ≡ length x → ButForPlace (forecastEffect l b x .answer) (forecastEffect l′ b′ x′ .answer)
 
 abbrev pub EveryBook : Type 0
 EveryBook = (n : ℕ) (o : Order n) (l b l′ b′ : List ℕ) → ProjectMoved o l b l′ b′ → RefusedAlike o l b l′ b′
@@ -148,19 +148,19 @@ SameTotals =
 
 -- what a forecast left on l, with an output x, and on l′, with an output x′: the same answer; where it is accepted, the same kg of each
 -- year, and the scratch book in that order; beyond the horizon each output is as it was
-pub record SameForecast {n : ℕ} (o : Order n) (l x x′ : List ℕ) (m m′ : Left) : Type 0 where
+pub record SameForecast {n : ℕ} (o : Order n) (l x x′ : List ℕ) (m m′ : Effect) : Type 0 where
   pub answer-is : m′ .answer ≡ m .answer
   pub years-are : m .answer .done ≡ true → SameWords (horizon l) (m′ .output) 0 (m .output) 0
   pub book-moved : m .answer .done ≡ true → BookMoved o (m .book) (m′ .book)
   pub beyond : (k : ℕ) → horizon l ≤ k → (getD (m .output) k 0 ≡ getD x k 0) × (getD (m′ .output) k 0 ≡ getD x′ k 0)
 
--- for every listing that is right, any two scratch books of one length, and any two outputs of one length
+-- for every listing that is valid, any two scratch books of one length, and any two outputs of one length
 abbrev pub EveryForecast : Type 0
 EveryForecast =
     (n : ℕ) (o : Order n) (l b x l′ b′ x′ : List ℕ) → ListingMoved o l l′ → length b′ ≡ length b → length x′ ≡ length x → checked l .done ≡ true →
-    SameForecast o l x x′ (forecasting l b x) (forecasting l′ b′ x′)
+    SameForecast o l x x′ (forecastEffect l b x) (forecastEffect l′ b′ x′)
 
--- ---- there are orders, and for every right listing there is one with its cells in that order
+-- ---- there are orders, and for every valid listing there is one with its cells in that order
 
 pub record Reordered {n : ℕ} (o : Order n) (l : List ℕ) : Type 0 where
   pub listing : List ℕ
@@ -169,7 +169,7 @@ pub record Reordered {n : ℕ} (o : Order n) (l : List ℕ) : Type 0 where
 abbrev pub EveryListing : Type 0
 EveryListing = (n : ℕ) (o : Order n) (l : List ℕ) → cells l ≡ n → checked l .done ≡ true → Reordered o l
 
--- where i and j have changed places, what stands at m came from here
+-- where i and j have changed places, what is at m came from here
 unfoldable pub origin : ℕ → ℕ → ℕ → ℕ
 origin i j m = cond (eqb m i) j (cond (eqb m j) i m)
 

@@ -6,7 +6,7 @@ use mathlib.Core.Bool.{true, false}
 use mathlib.Core.List.{List, []}
 use lib.ListN.{length}
 use Rattle.words.specs.Answers.{Answer, accepted}
-use Rattle.words.specs.Left.{leaves}
+use Rattle.words.specs.Effect.{effect}
 use Rattle.words.specs.Refusals.{tooFewWords, termNotAbove}
 use Rattle.words.specs.Sums.{sumBelow}
 use Rattle.listing.specs.Layout.{mostWords, cells, cell}
@@ -14,7 +14,7 @@ use Rattle.listing.specs.Check.{checked}
 use Rattle.year.specs.Year.{remaining}
 use Rattle.book.specs.Current.{entry, admitted}
 use Rattle.book.specs.Layout.{year}
-use Rattle.ledger.specs.Calls.{closing, issuing}
+use Rattle.ledger.specs.Calls.{closeEffect, issueEffect}
 
 -- the bytes of the longest listing, 11,256
 abbrev pub mostBytes : ℕ
@@ -37,8 +37,8 @@ pub record InYear (l b : List ℕ) (t : ℕ) : Type 0 where
 
 -- a year of book b and lines buffer x: the closing and the issue after it are accepted and leave book′ and lines′; the issue answers the tonnes
 pub record Ran (l b x book′ lines′ : List ℕ) (tonnes : ℕ) : Type 0 where
-  pub closed : leaves (accepted 0) (closing l b x .book) lines′ ≡ closing l b x
-  pub issued : leaves (accepted tonnes) book′ [] ≡ issuing l (closing l b x .book)
+  pub closed : effect (accepted 0) (closeEffect l b x .book) lines′ ≡ closeEffect l b x
+  pub issued : effect (accepted tonnes) book′ [] ≡ issueEffect l (closeEffect l b x .book)
 
 -- book and lines buffer
 pub record Slices : Type 0 where
@@ -50,9 +50,9 @@ unfoldable pub ranFor : List ℕ → Slices → ℕ → Slices
 ranFor l s zero = s
 ranFor l s (suc t) =
     let before = ranFor l s t in
-    let closed = closing l (before .book) (before .lines) in
-    record { book = issuing l (closed .book) .book; lines = closed .output }
+    let closed = closeEffect l (before .book) (before .lines) in
+    record { book = issueEffect l (closed .book) .book; lines = closed .output }
 
 -- mm remaining, over all cells
-unfoldable pub left : List ℕ → List ℕ → ℕ
-left l b = sumBelow (λ i. remaining (cell l i) (entry b i)) (cells l)
+unfoldable pub remainingTotal : List ℕ → List ℕ → ℕ
+remainingTotal l b = sumBelow (λ i. remaining (cell l i) (entry b i)) (cells l)

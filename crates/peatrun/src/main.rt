@@ -12,7 +12,7 @@ ghost use Rattle.year.specs.Year.{remaining};
 ghost use Rattle.book.specs.Current.{entry, admitted};
 ghost use Rattle.book.specs.Layout.{lineWords};
 ghost use Rattle.closing.specs.Closable.{Closable};
-ghost use Rattle.peatrun.specs.Years.{mostBytes, OfListing, InYear, Ran, ranFor, left};
+ghost use Rattle.peatrun.specs.Years.{mostBytes, OfListing, InYear, Ran, ranFor, remainingTotal};
 use book::BOOK;
 use book::LINE_WORDS;
 use fields::MOST_CELLS;
@@ -57,20 +57,22 @@ fn read(buffer: &mut [u8]) -> Input {
 }
 
 // Each function that prints answers whether all of it was written.
-fn say(text: &[u8]) -> bool {
+fn print(text: &[u8]) -> bool {
     io::write_all(STDOUT_FILENO, text)
 }
 
-// A number, and what stands behind it.
-fn say_number(n: u64, then: &[u8]) -> bool {
-    io::print_decimal(STDOUT_FILENO, n) && say(then)
+// A number, and what follows it.
+fn print_number(n: u64, then: &[u8]) -> bool {
+    io::print_decimal(STDOUT_FILENO, n) && print(then)
 }
 
 // The word refused, its number and its place. Only a listing is refused here, by 1 to 5.
-fn say_refused(why: Refusal) -> bool
+fn print_refused(why: Refusal) -> bool
     requires { ⌜ (tooFewWords ≤ why .number) × (why .number ≤ termNotAbove) ⌝ }
 {
-    say(b"refused ") && say_number(why.number as u64, b" ") && say_number(why.place as u64, b"\n")
+    print(b"refused ")
+        && print_number(why.number as u64, b" ")
+        && print_number(why.place as u64, b"\n")
 }
 
 // The refusal that an answer is.
@@ -79,19 +81,19 @@ fn refuse(answer: Outcome) -> bool
 {
     match answer {
         Outcome::Done => true,
-        Outcome::Refused(why) => say_refused(why),
+        Outcome::Refused(why) => print_refused(why),
     }
 }
 
 // A year's line: mm oxidised, mm burned and kg over all cells, and the tonnes issued.
-fn say_year(year: u32, lines: &[u32], tonnes: u32) -> bool
+fn print_year(year: u32, lines: &[u32], tonnes: u32) -> bool
     requires { ⌜ length (now lines) ≤ 2 ^ 32 ⌝ }
 {
-    say_number(year as u64, b" ")
-        && say_number(totals::line_total(lines, 0), b" ")
-        && say_number(totals::line_total(lines, 1), b" ")
-        && say_number(totals::line_total(lines, 2), b" ")
-        && say_number(tonnes as u64, b"\n")
+    print_number(year as u64, b" ")
+        && print_number(totals::line_total(lines, 0), b" ")
+        && print_number(totals::line_total(lines, 1), b" ")
+        && print_number(totals::line_total(lines, 2), b" ")
+        && print_number(tonnes as u64, b"\n")
 }
 
 // Closes the year after the current one and issues: the tonnes. Neither call is refused, by the
@@ -122,7 +124,7 @@ fn run_years(listing: &[u32], book: &mut [u32], lines: &mut [u32]) -> bool
     while year < horizon {
         year += 1;
         let tonnes = run_year(listing, book, lines);
-        if !say_year(year, lines, tonnes) {
+        if !print_year(year, lines, tonnes) {
             return false;
         }
     }
@@ -136,16 +138,16 @@ fn remaining(listing: &[u32], book: &[u32], i: usize) -> u32
     ensures { λ r. ⌜ r ≡ remaining (cell (now (listing .entry)) i) (entry (now (book .entry)) i) ⌝ }
 {
     let stated = ledger::statement(listing, book, i);
-    let Stated::Told(account) = stated else {
+    let Stated::Value(account) = stated else {
         return 0;
     };
     account.remaining
 }
 
 // The mm that remain, over all cells.
-fn left(listing: &[u32], book: &[u32]) -> u64
+fn remaining_total(listing: &[u32], book: &[u32]) -> u64
     requires { ⌜ admitted (now listing) (now book) .done ≡ true ⌝ }
-    ensures { λ r. ⌜ r ≡ left (now (listing .entry)) (now (book .entry)) ⌝ }
+    ensures { λ r. ⌜ r ≡ remainingTotal (now (listing .entry)) (now (book .entry)) ⌝ }
 {
     let cells = listing::head(listing).cells as usize;
     let mut sum: u64 = 0;
@@ -157,24 +159,24 @@ fn left(listing: &[u32], book: &[u32]) -> u64
     sum
 }
 
-fn say_left(listing: &[u32], book: &[u32]) -> bool
+fn print_remaining(listing: &[u32], book: &[u32]) -> bool
     requires { ⌜ admitted (now listing) (now book) .done ≡ true ⌝ }
 {
-    say(b"left ") && say_number(left(listing, book), b"\n")
+    print(b"left ") && print_number(remaining_total(listing, book), b"\n")
 }
 
-// The table of an opened book, with room for its lines.
+// The table of an opened book, with space for its lines.
 fn run_opened(listing: &[u32], book: &mut [u32], lines: &mut [u32]) -> bool
     requires { ⌜ InYear (now listing) (now book) 0 × (lineWords * cells (now listing) ≤ length (now lines)) ⌝ }
 {
-    if !say(b"year ox burn kg issued\n") {
+    if !print(b"year ox burn kg issued\n") {
         return false;
     }
     let end = LINE_WORDS * listing::head(listing).cells as usize;
     if !run_years(listing, book, &mut lines[0..end]) {
         return false;
     }
-    say_left(listing, &book[..])
+    print_remaining(listing, &book[..])
 }
 
 // The table of a listing, or its refusal.
@@ -200,7 +202,7 @@ fn answer(bytes: &[u8]) -> bool
     requires { ⌜ length (now bytes) ≤ mostBytes ⌝ }
 {
     if bytes.len() % 4 != 0 {
-        return say(b"odd bytes\n");
+        return print(b"odd bytes\n");
     }
     let mut words = [0u32; MOST_WORDS];
     let n = decode::decode(bytes, &mut words);
@@ -215,7 +217,7 @@ fn main() {
         return;
     };
     let written = if too_long(count) {
-        say(b"too long\n")
+        print(b"too long\n")
     } else {
         answer(&buffer[0..count])
     };

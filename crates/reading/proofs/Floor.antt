@@ -12,17 +12,17 @@ use lib.Ieee.{Float, binary32, lt, ofBits}
 use lib.Ieee.Nearest.{div-same}
 use borrow.Author.Tests.{leb-true, leb-false}
 use Rattle.words.proofs.Signed.{diff-is}
-use Rattle.reading.specs.Metres.{over, under, lowestLevel, highestLevel, lowestMm, inLevel, mm}
-use Rattle.reading.proofs.Order.{under-pos, level-inside, at-least, not-lt-whole}
-use Rattle.reading.proofs.Pattern.{Parted, Tiny}
+use Rattle.reading.specs.Metres.{numerator, denominator, lowestLevel, highestLevel, lowestMm, inLevel, mm}
+use Rattle.reading.proofs.Order.{denominator-pos, level-inside, at-least, not-lt-whole}
+use Rattle.reading.proofs.Pattern.{Decomposed, Tiny}
 
 -- ---- a / d and b / p are one fraction: then so are the whole numbers just below them
 module _ (a b d p : ℕ) (D : 0 < d) (P : 0 < p) (v : a * p ≡ b * d) where
   below-same : (c : ℕ) → c * d < a → c * p < b
   below-same c h = lt-of-mul-lt-mul-right d (lt-of-le-of-lt (le-of-eq (mul-right-comm c p d)) (lt-of-lt-of-le (mul-lt-mul-of-pos-right h P) (le-of-eq v)))
 
-  some-same : 0 < a → 0 < b
-  some-same h = let k : 0 * p < b = below-same 0 (omega arith) in omega arith
+  positive-same : 0 < a → 0 < b
+  positive-same h = let k : 0 * p < b = below-same 0 (omega arith) in omega arith
 
   less-one : 0 < a → (a - 1) / d ≤ (b - 1) / p
   less-one A =
@@ -32,11 +32,11 @@ module _ (a b d p : ℕ) (D : 0 < d) (P : 0 < p) (v : a * p ≡ b * d) where
       le-div-iff-mul-le P .1 (omega arith)
 
 just-below : (a b d p : ℕ) → 0 < d → 0 < p → a * p ≡ b * d → 0 < a → (a - 1) / d ≡ (b - 1) / p
-just-below a b d p D P v A = le-antisymm (less-one a b d p D P v A) (less-one b a p d P D (sym v) (some-same a b d p D P v A))
+just-below a b d p D P v A = le-antisymm (less-one a b d p D P v A) (less-one b a p d P D (sym v) (positive-same a b d p D P v A))
 
 -- ---- a fraction z / d of the size q / 2 ^ k: 1,000 times it, rounded down, and the lowest level's more
 pub record Below (z : ℤ) (d q k : ℕ) : Type 0 where
-  pub some : 0 < 1000 * q
+  pub positive : 0 < 1000 * q
   pub small : (1000 * q - 1) / 2 ^ k ≤ lowestMm - 1
   pub raised : pos (lowestMm - 1 - (1000 * q - 1) / 2 ^ k) ≡ shrZ (pos 1000 *ℤ z) d +ℤ pos lowestMm
 
@@ -64,7 +64,7 @@ module _ (d q k : ℕ) (D : 0 < d) where
       let C : (1000 * suc a - 1) / d < lowestMm = div-lt-iff-lt-mul D .1 (omega arith) in
       let small : c ≤ lowestMm - 1 = omega (arith, is) in
       record {
-        some = some-same (1000 * suc a) (1000 * q) d (2 ^ k) D (pow-pos k) w A;
+        positive = positive-same (1000 * suc a) (1000 * q) d (2 ^ k) D (pow-pos k) w A;
         small = small;
         raised = sym (diff-is lowestMm (suc c) (lowestMm - 1 - c) (omega arith)) ∙ ap (λ (i : ℤ). i +ℤ pos lowestMm) (ap negsuc (sym is) ∙ sym (shr-neg (1000 * suc a) d A));
       }
@@ -78,17 +78,17 @@ module _ (d q k : ℕ) (D : 0 < d) where
   plus (negsuc a) v n h = absurd (false≢true n)
 
 -- ---- what `mm_above_lowest` cites, of a level x
-module _ (x : Float) (q k : ℕ) (P : Parted x q k) (L : inLevel x ≡ true) where
+module _ (x : Float) (q k : ℕ) (P : Decomposed x q k) (L : inLevel x ≡ true) where
   -- the test x < 0.0
-  tested : not (lt x (ofBits binary32 0)) ≡ leZ (pos 0 *ℤ pos (under x)) (over x)
+  tested : not (lt x (ofBits binary32 0)) ≡ leZ (pos 0 *ℤ pos (denominator x)) (numerator x)
   unfolding ofBits
   tested = not-lt-whole x (ofBits binary32 0) (level-inside x L .finite) refl refl
 
-  pub below : lt x (ofBits binary32 0) ≡ true → Below (over x) (under x) q k
-  below h = minus (under x) q k (under-pos x) (over x) (P .value) (sym tested ∙ ap not h) (level-inside x L .least)
+  pub below : lt x (ofBits binary32 0) ≡ true → Below (numerator x) (denominator x) q k
+  below h = minus (denominator x) q k (denominator-pos x) (numerator x) (P .value) (sym tested ∙ ap not h) (level-inside x L .least)
 
-  pub above : lt x (ofBits binary32 0) ≡ false → Above (over x) (under x) q k
-  above h = plus (under x) q k (under-pos x) (over x) (P .value) (sym tested ∙ ap not h) (level-inside x L .most)
+  pub above : lt x (ofBits binary32 0) ≡ false → Above (numerator x) (denominator x) q k
+  above h = plus (denominator x) q k (denominator-pos x) (numerator x) (P .value) (sym tested ∙ ap not h) (level-inside x L .most)
 
 -- less than a millimetre from zero, its millimetres are those of zero, or one less
 module _ (x : Float) (t : Tiny x) (L : inLevel x ≡ true) where

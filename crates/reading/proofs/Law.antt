@@ -8,8 +8,8 @@ use mathlib.Core.Bool.{true}
 use lib.IntN.{ℤ, pos, negsuc, negℤ, sucℤ, _*ℤ_}
 use lib.Signed.{leZ, ltZ, shrZ}
 use lib.Dec.{T, leb, leb→le, le→leb, leb·zero, ltb→lt, lt→ltb}
-use Rattle.reading.specs.Metres.{over, under, mm, EveryReading}
-use Rattle.reading.proofs.Order.{neg-neg, times, under-pos}
+use Rattle.reading.specs.Metres.{numerator, denominator, mm, EveryReading}
+use Rattle.reading.proofs.Order.{neg-neg, times, denominator-pos}
 
 -- -a - 1 < -b is b ≤ a
 neg-lt : (a b : ℕ) → ltZ (negsuc a) (negℤ (pos b)) ≡ leb b a
@@ -61,9 +61,9 @@ pub every-reading : EveryReading
 unfolding mm
 every-reading =
     record {
-      denominator = λ x _. under-pos x;
+      denominator = λ x _. denominator-pos x;
       floor = λ x _.
-          let a = pos 1000 *ℤ over x in
-          record { not-above = record { le = lo (under x) (under-pos x) a }; next-above = record { lt = hi (under x) (under-pos x) a } };
-      only = λ x n _ f. only (under x) (under-pos x) (pos 1000 *ℤ over x) n (f .not-above .le) (f .next-above .lt);
+          let a = pos 1000 *ℤ numerator x in
+          record { not-above = record { le = lo (denominator x) (denominator-pos x) a }; next-above = record { lt = hi (denominator x) (denominator-pos x) a } };
+      only = λ x n _ f. only (denominator x) (denominator-pos x) (pos 1000 *ℤ numerator x) n (f .not-above .le) (f .next-above .lt);
     }

@@ -12,14 +12,14 @@ use Rattle.words.specs.Bits.{atLeast0}
 use Rattle.words.specs.Answers.{accepted}
 use Rattle.words.proofs.Signed.{atLeast0-less, diff-is, diff-same}
 use Rattle.words.proofs.Answers.{answers}
-use Rattle.reading.specs.Metres.{over, under, inCore, mm, lowestMm}
-use Rattle.reading.specs.Depth.{greatestDepth, inDepth}
+use Rattle.reading.specs.Metres.{numerator, denominator, inCore, mm, lowestMm}
+use Rattle.reading.specs.Depth.{mostDepth, inDepth}
 use Rattle.reading.proofs.Order.{core-inside, core-finite, level-finite, core-level}
 
 -- ---- a core's millimetres are not below zero
 pub core-enough : (x : Float) (r : ℕ) → inCore x ≡ true → pos r ≡ mm x +ℤ pos lowestMm → lowestMm ≤ r
 unfolding mm
-core-enough x r h e = go (over x) (under x) (core-inside x h .least) e
+core-enough x r h e = go (numerator x) (denominator x) (core-inside x h .least) e
   where
     go : (z : ℤ) (d : ℕ) → leZ (pos 0 *ℤ pos d) z ≡ true → pos r ≡ shrZ (pos 1000 *ℤ z) d +ℤ pos lowestMm → lowestMm ≤ r
     go (pos a) d h e = let k : r ≡ 1000 * a / d + lowestMm = ap natAbs e in omega arith
@@ -49,15 +49,15 @@ module _ (n : ℕ) (u : ℤ) (s : ℕ) (p : pos s ≡ u +ℤ pos n) where
     unfolding inDepth
     base-above h = ap inDepth (difference ∙ diff-same s b 0 (suc (b - suc s)) (omega arith)) ∙ rw (lt-ltb 0 (suc (b - suc s)) (omega arith))
 
-    bounded : b ≤ s → inDepth (u -ℤ v) ≡ leb (s - b) greatestDepth
+    bounded : b ≤ s → inDepth (u -ℤ v) ≡ leb (s - b) mostDepth
     unfolding inDepth
     bounded h = ap inDepth (difference ∙ diff-is s b (s - b) (omega arith)) ∙ rw (le-leb 0 (s - b) (omega arith))
 
-    pub pair-deep : b ≤ s → greatestDepth < s - b → inDepth (u -ℤ v) ≡ false
-    pair-deep h k = bounded h ∙ lt-leb (s - b) greatestDepth k
+    pub pair-deep : b ≤ s → mostDepth < s - b → inDepth (u -ℤ v) ≡ false
+    pair-deep h k = bounded h ∙ lt-leb (s - b) mostDepth k
 
-    pub pair-depth : b ≤ s → s - b ≤ greatestDepth → inDepth (u -ℤ v) ≡ true
-    pair-depth h k = bounded h ∙ le-leb (s - b) greatestDepth k
+    pub pair-depth : b ≤ s → s - b ≤ mostDepth → inDepth (u -ℤ v) ≡ true
+    pair-depth h k = bounded h ∙ le-leb (s - b) mostDepth k
 
 -- what the answers of this crate are found from
 pub ruleset depths = (answers, core-finite, level-finite, core-level, core-enough, core-value, pair-value, base-above, pair-deep, pair-depth)

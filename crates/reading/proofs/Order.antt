@@ -12,7 +12,7 @@ use lib.Ieee.Fits.{down-pos}
 use lib.Pow.{pow-pos}
 use borrow.Author.Tests.{lt-ltb, ltb-true, ltb-false, le-leb, lt-leb, leb-true, eq-eqb, ne-eqb}
 use Rattle.words.proofs.Answers.{and-left, and-right}
-use Rattle.reading.specs.Metres.{isFinite, over, under, between, deepestCore, lowestLevel, highestLevel, inCore, inLevel, Ends}
+use Rattle.reading.specs.Metres.{isFinite, numerator, denominator, between, mostCore, lowestLevel, highestLevel, inCore, inLevel, Ends}
 
 -- ---- the order of whole numbers with a sign
 pub neg-neg : (a b : ℕ) → leZ (negℤ (pos a)) (negℤ (pos b)) ≡ leb b a
@@ -54,12 +54,12 @@ times-one (pos a) = ap pos (mul-one a)
 times-one (negsuc a) = ap (λ (i : ℕ). negℤ (pos i)) (mul-one (suc a))
 
 -- ---- floats by their exact values, with the denominators multiplied out
-pub under-pos : (x : Float) → 0 < under x
-under-pos nan = pow-pos 0
-under-pos (inf s) = pow-pos 0
-under-pos (fin s m e) = down-pos e
+pub denominator-pos : (x : Float) → 0 < denominator x
+denominator-pos nan = pow-pos 0
+denominator-pos (inf s) = pow-pos 0
+denominator-pos (fin s m e) = down-pos e
 
-not-lt : (x y : Float) → isFinite x ≡ true → isFinite y ≡ true → not (lt x y) ≡ leZ (over y *ℤ pos (under x)) (over x *ℤ pos (under y))
+not-lt : (x y : Float) → isFinite x ≡ true → isFinite y ≡ true → not (lt x y) ≡ leZ (numerator y *ℤ pos (denominator x)) (numerator x *ℤ pos (denominator y))
 unfolding lt
 not-lt nan y f g = absurd (false≢true f)
 not-lt (inf s) y f g = absurd (false≢true f)
@@ -98,25 +98,25 @@ le-not-lt (fin s m e) (inf t) f g = absurd (false≢true g)
 le-not-lt (fin s m e) (fin t n d) f g = not-above s t (m * up e * down d) (n * up d * down e)
 
 -- against a whole number y
-module _ (x y : Float) (f : isFinite x ≡ true) (g : isFinite y ≡ true) (w : under y ≡ 1) where
-  x-times : over x *ℤ pos (under y) ≡ over x
-  x-times = ap (λ (i : ℕ). over x *ℤ pos i) w ∙ times-one (over x)
+module _ (x y : Float) (f : isFinite x ≡ true) (g : isFinite y ≡ true) (w : denominator y ≡ 1) where
+  x-times : numerator x *ℤ pos (denominator y) ≡ numerator x
+  x-times = ap (λ (i : ℕ). numerator x *ℤ pos i) w ∙ times-one (numerator x)
 
-  pub not-lt-whole : not (lt x y) ≡ leZ (over y *ℤ pos (under x)) (over x)
-  not-lt-whole = not-lt x y f g ∙ ap (leZ (over y *ℤ pos (under x))) x-times
+  pub not-lt-whole : not (lt x y) ≡ leZ (numerator y *ℤ pos (denominator x)) (numerator x)
+  not-lt-whole = not-lt x y f g ∙ ap (leZ (numerator y *ℤ pos (denominator x))) x-times
 
-  whole-le : le y x ≡ leZ (over y *ℤ pos (under x)) (over x)
+  whole-le : le y x ≡ leZ (numerator y *ℤ pos (denominator x)) (numerator x)
   whole-le = le-not-lt y x g f ∙ not-lt-whole
 
-  le-whole : le x y ≡ leZ (over x) (over y *ℤ pos (under x))
-  le-whole = le-not-lt x y f g ∙ not-lt y x g f ∙ ap (λ (i : ℤ). leZ i (over y *ℤ pos (under x))) x-times
+  le-whole : le x y ≡ leZ (numerator x) (numerator y *ℤ pos (denominator x))
+  le-whole = le-not-lt x y f g ∙ not-lt y x g f ∙ ap (λ (i : ℤ). leZ i (numerator y *ℤ pos (denominator x))) x-times
 
 -- the two tests of `in_range`: no NaN and no infinity passes both
-pub range-is : (x low high : Float) → Ends low high → between (over low) (over high) x ≡ (le low x && le x high)
+pub range-is : (x low high : Float) → Ends low high → between (numerator low) (numerator high) x ≡ (le low x && le x high)
 unfolding le
 range-is x low high e = go x low high (e .low-finite) (e .high-finite) (e .low-whole) (e .high-whole)
   where
-    go : (x low high : Float) → isFinite low ≡ true → isFinite high ≡ true → under low ≡ 1 → under high ≡ 1 → between (over low) (over high) x ≡ (le low x && le x high)
+    go : (x low high : Float) → isFinite low ≡ true → isFinite high ≡ true → denominator low ≡ 1 → denominator high ≡ 1 → between (numerator low) (numerator high) x ≡ (le low x && le x high)
     go x nan high f g v w = absurd (false≢true f)
     go x (inf s) high f g v w = absurd (false≢true f)
     go x (fin s m e) nan f g v w = absurd (false≢true g)
@@ -130,19 +130,19 @@ range-is x low high e = go x low high (e .low-finite) (e .high-finite) (e .low-w
 -- ---- what a range says
 pub record Inside (low high : ℤ) (x : Float) : Type 0 where
   pub finite : isFinite x ≡ true
-  pub least : leZ (low *ℤ pos (under x)) (over x) ≡ true
-  pub most : leZ (over x) (high *ℤ pos (under x)) ≡ true
+  pub least : leZ (low *ℤ pos (denominator x)) (numerator x) ≡ true
+  pub most : leZ (numerator x) (high *ℤ pos (denominator x)) ≡ true
 
 inside : (low high : ℤ) (x : Float) → between low high x ≡ true → Inside low high x
 inside low high x h =
-    let a = leZ (low *ℤ pos (under x)) (over x) in
-    let b = leZ (over x) (high *ℤ pos (under x)) in
+    let a = leZ (low *ℤ pos (denominator x)) (numerator x) in
+    let b = leZ (numerator x) (high *ℤ pos (denominator x)) in
     let r = and-right (isFinite x) (a && b) h in
     record { finite = and-left (isFinite x) (a && b) h; least = and-left a b r; most = and-right a b r }
 
-pub core-inside : (x : Float) → inCore x ≡ true → Inside (pos 0) (pos deepestCore) x
+pub core-inside : (x : Float) → inCore x ≡ true → Inside (pos 0) (pos mostCore) x
 unfolding inCore
-core-inside x h = inside (pos 0) (pos deepestCore) x h
+core-inside x h = inside (pos 0) (pos mostCore) x h
 
 pub level-inside : (x : Float) → inLevel x ≡ true → Inside (negℤ (pos lowestLevel)) (pos highestLevel) x
 unfolding inLevel
@@ -163,8 +163,8 @@ module _ (d : ℕ) where
   wide (pos a) h = neg-pos (lowestLevel * d) a
   wide (negsuc a) h = absurd (false≢true h)
 
-  tall : (z : ℤ) → leZ z (pos deepestCore *ℤ pos d) ≡ true → leZ z (pos highestLevel *ℤ pos d) ≡ true
-  tall (pos a) h = let k = leb-true a (deepestCore * d) h in le-leb a (highestLevel * d) (omega arith)
+  tall : (z : ℤ) → leZ z (pos mostCore *ℤ pos d) ≡ true → leZ z (pos highestLevel *ℤ pos d) ≡ true
+  tall (pos a) h = let k = leb-true a (mostCore * d) h in le-leb a (highestLevel * d) (omega arith)
   tall (negsuc a) h = refl
 
 -- a core is a level
@@ -172,4 +172,4 @@ pub core-level : (x : Float) → inCore x ≡ true → inLevel x ≡ true
 unfolding inLevel
 core-level x h =
     let i = core-inside x h in
-    rw (i .finite, wide (under x) (over x) (i .least), tall (under x) (over x) (i .most))
+    rw (i .finite, wide (denominator x) (numerator x) (i .least), tall (denominator x) (numerator x) (i .most))

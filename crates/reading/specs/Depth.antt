@@ -19,11 +19,11 @@ core x =
     (accepted (atLeast0 (mm x))))
 
 -- a pair's depth is "in 0 to 20,000"
-abbrev pub greatestDepth : ℕ
-greatestDepth = 20000
+abbrev pub mostDepth : ℕ
+mostDepth = 20000
 
 unfoldable pub inDepth : ℤ → Bool
-inDepth z = leZ (pos 0) z && leZ z (pos greatestDepth)
+inDepth z = leZ (pos 0) z && leZ z (pos mostDepth)
 
 -- a pair "gives surface mm − base mm, in 0 to 20,000, else 17 at place 2. For a pair 16 is tested on both before 17"
 unfoldable pub levels : Float → Float → Answer

@@ -14,26 +14,26 @@ isFinite (inf s) = false
 isFinite (fin s m e) = true
 
 -- "its exact value": a finite x is the fraction over x / under x, with an integer over x, 0 for -0 too, and under x above 0
-abbrev pub over : Float → ℤ
-over nan = pos 0
-over (inf s) = pos 0
-over (fin s m e) = cond s (negℤ (pos (m * up e))) (pos (m * up e))
+abbrev pub numerator : Float → ℤ
+numerator nan = pos 0
+numerator (inf s) = pos 0
+numerator (fin s m e) = cond s (negℤ (pos (m * up e))) (pos (m * up e))
 
-abbrev pub under : Float → ℕ
-under nan = 1
-under (inf s) = 1
-under (fin s m e) = down e
+abbrev pub denominator : Float → ℕ
+denominator nan = 1
+denominator (inf s) = 1
+denominator (fin s m e) = down e
 
 -- low ≤ x ≤ high, for whole numbers low and high, with the denominator multiplied out
 abbrev pub between : ℤ → ℤ → Float → Bool
-between low high x = isFinite x && (leZ (low *ℤ pos (under x)) (over x) && leZ (over x) (high *ℤ pos (under x)))
+between low high x = isFinite x && (leZ (low *ℤ pos (denominator x)) (numerator x) && leZ (numerator x) (high *ℤ pos (denominator x)))
 
 -- "a core lies in 0 to 20 (−0 is 0)"
-abbrev pub deepestCore : ℕ
-deepestCore = 20
+abbrev pub mostCore : ℕ
+mostCore = 20
 
 unfoldable pub inCore : Float → Bool
-inCore x = between (pos 0) (pos deepestCore) x
+inCore x = between (pos 0) (pos mostCore) x
 
 -- "a level in −100 to 3,000": the lowest is so many metres below zero
 abbrev pub lowestLevel : ℕ
@@ -47,18 +47,18 @@ inLevel x = between (negℤ (pos lowestLevel)) (pos highestLevel) x
 
 -- "its mm is the greatest whole number not above 1,000 times its exact value, also below zero": `shrZ` rounds down
 unfoldable pub mm : Float → ℤ
-mm x = shrZ (pos 1000 *ℤ over x) (under x)
+mm x = shrZ (pos 1000 *ℤ numerator x) (denominator x)
 
 -- ---- that `mm` is this number
 
 -- n ≤ 1,000 × x < n + 1, with the denominator multiplied out; `sucℤ n` is n + 1
 pub record Floor (x : Float) (n : ℤ) : Type 0 where
-  pub not-above : (n *ℤ pos (under x)) ≤ℤ (pos 1000 *ℤ over x)
-  pub next-above : (pos 1000 *ℤ over x) <ℤ (sucℤ n *ℤ pos (under x))
+  pub not-above : (n *ℤ pos (denominator x)) ≤ℤ (pos 1000 *ℤ numerator x)
+  pub next-above : (pos 1000 *ℤ numerator x) <ℤ (sucℤ n *ℤ pos (denominator x))
 
 -- the mm of every finite number are such an n, and the only one; proofs/Law.antt proves it
 pub record EveryReading : Type 0 where
-  pub denominator : (x : Float) → isFinite x ≡ true → 0 < under x
+  pub denominator : (x : Float) → isFinite x ≡ true → 0 < denominator x
   pub floor : (x : Float) → isFinite x ≡ true → Floor x (mm x)
   pub only : (x : Float) (n : ℤ) → isFinite x ≡ true → Floor x n → n ≡ mm x
 
@@ -70,6 +70,6 @@ lowestMm = 1000 * lowestLevel
 -- low and high are whole numbers
 pub record Ends (low high : Float) : Type 0 where
   pub low-finite : isFinite low ≡ true
-  pub low-whole : under low ≡ 1
+  pub low-whole : denominator low ≡ 1
   pub high-finite : isFinite high ≡ true
-  pub high-whole : under high ≡ 1
+  pub high-whole : denominator high ≡ 1

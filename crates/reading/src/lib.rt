@@ -8,7 +8,7 @@ ghost use mathlib.Core.Path.{_≡_};
 ghost use mathlib.Core.Bool.{true, false};
 ghost use lib.IntN.{pos, _+ℤ_};
 ghost use Rattle.words.specs.Answers.{amount};
-ghost use Rattle.reading.specs.Metres.{isFinite, over, between, inLevel, mm, lowestMm, Ends};
+ghost use Rattle.reading.specs.Metres.{isFinite, numerator, between, inLevel, mm, lowestMm, Ends};
 ghost use Rattle.reading.specs.Depth.{core, levels, depth};
 ghost use Rattle.reading.specs.declared.Reading.the-variants.{Missing};
 
@@ -19,15 +19,15 @@ pub enum Reading {
 }
 
 // The ends of the ranges, in metres.
-const DEEPEST_CORE: f32 = 20.0;
+const MOST_CORE: f32 = 20.0;
 
 const LOWEST_LEVEL: f32 = -100.0;
 
 const HIGHEST_LEVEL: f32 = 3000.0;
 
-const LOWEST: u32 = 100_000; // the lowest level's millimetres, below zero
+const LOWEST_MM: u32 = 100_000; // the lowest level's millimetres, below zero
 
-const DEEPEST: u32 = 20_000; // the greatest depth between two levels, in mm
+const MOST_DEPTH: u32 = 20_000; // the greatest depth between two levels, in mm
 
 const PAIR: usize = 2; // the place of a depth between two levels
 
@@ -54,8 +54,8 @@ pub fn missing() -> Amount
 pub fn core(x: f32) -> Amount
     ensures { λ r. ⌜ amount r ≡ core x ⌝ }
 {
-    if in_range(x, 0.0, DEEPEST_CORE) {
-        return Amount::Value(mm_above_lowest(x) - LOWEST);
+    if in_range(x, 0.0, MOST_CORE) {
+        return Amount::Value(mm_above_lowest(x) - LOWEST_MM);
     }
     if !finite(x) {
         return refuse_amount(NOT_FINITE, 0);
@@ -78,7 +78,7 @@ pub fn levels(surface: f32, base: f32) -> Amount
     if s < b {
         return refuse_amount(OUT_OF_RANGE, PAIR);
     }
-    if DEEPEST < s - b {
+    if MOST_DEPTH < s - b {
         return refuse_amount(OUT_OF_RANGE, PAIR);
     }
     Amount::Value(s - b)
@@ -116,7 +116,7 @@ fn finite(x: f32) -> bool
 // there.
 fn in_range(x: f32, low: f32, high: f32) -> bool
     requires { ⌜ Ends low high ⌝ }
-    ensures { λ r. ⌜ r ≡ between (over low) (over high) x ⌝ }
+    ensures { λ r. ⌜ r ≡ between (numerator low) (numerator high) x ⌝ }
 {
     if low <= x {
         return x <= high;
@@ -141,13 +141,13 @@ fn mm_above_lowest(x: f32) -> u32
     let exponent = words::bits(pattern, 30, 23);
     // below a millimetre by far, subnormals too: a shift by 64 or more is not defined
     if exponent < 87 {
-        return if x < 0.0 { LOWEST - 1 } else { LOWEST };
+        return if x < 0.0 { LOWEST_MM - 1 } else { LOWEST_MM };
     }
     let mantissa = words::bits(pattern, 22, 0) + 0x80_0000;
     let places = 150 - exponent;
     let n = 1000 * mantissa as u64;
     if x < 0.0 {
-        return LOWEST - 1 - (((n - 1) >> places) as u32);
+        return LOWEST_MM - 1 - (((n - 1) >> places) as u32);
     }
-    LOWEST + ((n >> places) as u32)
+    LOWEST_MM + ((n >> places) as u32)
 }

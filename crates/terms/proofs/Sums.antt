@@ -18,17 +18,17 @@ use Rattle.words.proofs.Signed.{by-test, size-add, size-part, atLeast0-add, cas
 use Rattle.fields.specs.Fields.{yearOf, termOf, tonnesOf, yearlyTerm}
 use Rattle.fields.specs.Words.{mostTerm, mostTermTonnes, mostTermTonnesBelow}
 use Rattle.fields.specs.declared.YearlyTerm.{YearlyTerm}
-use Rattle.fields.proofs.Right.{term-most}
-use Rattle.listing.specs.Layout.{mostTermWords, starts}
+use Rattle.fields.proofs.Valid.{term-most}
+use Rattle.listing.specs.Layout.{mostTermWords, offsets}
 use Rattle.terms.specs.Terms.{counted, total, termsToDate, mostTerms, mostTermsBelow}
 use Rattle.terms.specs.Split.{upTo, Split}
 use Rattle.listing.specs.Accepted.{Accepted}
-use Rattle.listing.proofs.Accepted.{terms-few, years-rise}
+use Rattle.listing.proofs.Accepted.{terms-at-most, years-rise}
 
 -- ---- one word
 
 halved : (w : ℕ) → Halved 17 (bits w 16 0) mostTermTonnesBelow
-halved w = record { some = omega arith; half = refl; below = field-below w 0 17 }
+halved w = record { width-fits = omega arith; half = refl; below = field-below w 0 17 }
 
 pub tonnes-size : (w : ℕ) → natAbs (tonnesOf w) ≤ mostTermTonnesBelow
 tonnes-size w = signed-size (halved w)
@@ -104,17 +104,19 @@ module _ (f : ℕ → ℤ) (size : (w : ℕ) → natAbs (f w) ≤ mostTermTonnes
 
 module _ (l : List ℕ) (year last : ℕ) (a : Accepted l) where
   pub terms-size : natAbs (termsToDate l year last) ≤ mostTermsBelow
-  terms-size = total-size (counted year last) (counted-size year last) (drop (starts l .terms) l) (omega (arith, length-drop (starts l .terms) l, terms-few l a))
+  terms-size = total-size (counted year last) (counted-size year last) (drop (offsets l .terms) l) (omega (arith, length-drop (offsets l .terms) l, terms-at-most l a))
 
   pub terms-most : atLeast0 (termsToDate l year last) ≤ mostTerms
   unfolding atLeast0
   terms-most =
-      omega (arith, total-bound atLeast0 refl atLeast0-add (counted year last) mostTermTonnes (counted-most year last) (drop (starts l .terms) l), length-drop (starts l .terms) l, terms-few l a)
+      omega
+      (arith, total-bound atLeast0 refl atLeast0-add (counted year last) mostTermTonnes (counted-most year last) (drop (offsets l .terms) l), length-drop (offsets l .terms) l, terms-at-most l a)
 
 -- ---- the terms to date come first
 
 -- where the first n words count by g, and those after them do not count
-total-first : (f g : ℕ → ℤ) (n : ℕ) (ws : List ℕ) → ((j : ℕ) → j < n → j < length ws → g (getD ws j 0) ≡ f (getD ws j 0)) → ((j : ℕ) → n ≤ j → j < length ws → pos 0 ≡ f (getD ws j 0)) → total g (take n ws) ≡ total f ws
+total-first : (f g : ℕ → ℤ) (n : ℕ) (ws : List ℕ) → ((j : ℕ) → j < n → j < length ws → g (getD ws j 0) ≡ f (getD ws j 0)) →
+    ((j : ℕ) → n ≤ j → j < length ws → pos 0 ≡ f (getD ws j 0)) → total g (take n ws) ≡ total f ws
 unfolding total
 total-first f g zero [] p q = refl
 total-first f g (suc n) [] p q = refl
@@ -134,7 +136,7 @@ module _ (l : List ℕ) (year start : ℕ) where
         rw e at s
 
     -- by the year of a word m between them
-    module _ (a : Accepted l) (e : start ≡ starts l .terms) (m : ℕ) (p : low ≤ m) (q : m < high) where
+    module _ (a : Accepted l) (e : start ≡ offsets l .terms) (m : ℕ) (p : low ≤ m) (q : m < high) where
       pub split-above : yearOf (getD l m 0) ≤ year → Split l year start (m + 1) high
       split-above h =
           let o = s .ordered in
@@ -150,7 +152,8 @@ module _ (l : List ℕ) (year start : ℕ) where
           record { ordered = (omega arith, omega arith, omega arith); before = s .before; after = last }
 
   module _ (f g : ℕ → ℤ) {end : ℕ} (s : Split l year start end end) where
-    first-terms : ((k : ℕ) → start ≤ k → k < length l → yearOf (getD l k 0) ≤ year → g (getD l k 0) ≡ f (getD l k 0)) → ((w : ℕ) → year < yearOf w → pos 0 ≡ f w) → total g (take (end - start) (drop start l)) ≡ total f (drop start l)
+    first-terms : ((k : ℕ) → start ≤ k → k < length l → yearOf (getD l k 0) ≤ year → g (getD l k 0) ≡ f (getD l k 0)) → ((w : ℕ) → year < yearOf w → pos 0 ≡ f w) →
+        total g (take (end - start) (drop start l)) ≡ total f (drop start l)
     first-terms p q =
         let o = s .ordered in
         let n = length-drop start l in
@@ -161,11 +164,11 @@ module _ (l : List ℕ) (year start : ℕ) where
         ∙ ap f (sym (getD-drop start l j 0)))
         (λ j h k. q (getD l (start + j) 0) (s .after (start + j) (omega arith) (omega arith)) ∙ ap f (sym (getD-drop start l j 0)))
 
-module _ (l : List ℕ) (year : ℕ) (a : Accepted l) {start end : ℕ} (e : start ≡ starts l .terms) (s : Split l year start end end) where
+module _ (l : List ℕ) (year : ℕ) (a : Accepted l) {start end : ℕ} (e : start ≡ offsets l .terms) (s : Split l year start end end) where
   pub first-all : total tonnesOf (take (end - start) (drop start l)) ≡ termsToDate l year mostTerm
   first-all =
       first-terms l year start (counted year mostTerm) tonnesOf s
-      (λ k p q h. sym (counted-all year mostTerm (getD l k 0) h (term-most (a .term-right k (omega arith) q))))
+      (λ k p q h. sym (counted-all year mostTerm (getD l k 0) h (term-most (a .term-valid k (omega arith) q))))
       (λ w h. sym (counted-later year mostTerm w h))
       ∙ ap (λ (k : ℕ). total (counted year mostTerm) (drop k l)) e
 
@@ -177,7 +180,7 @@ module _ (l : List ℕ) (year : ℕ) (a : Accepted l) {start end : ℕ} (e : sta
       ∙ ap (λ (k : ℕ). total (counted year last) (drop k l)) e
 
   pub first-most : length (take (end - start) (drop start l)) ≤ mostTermWords
-  first-most = omega (arith, length-take (end - start) (drop start l), length-drop start l, terms-few l a)
+  first-most = omega (arith, length-take (end - start) (drop start l), length-drop start l, terms-at-most l a)
 
 -- ---- a sum has come to word `at` and to x: x and what is left make the whole
 pub record Part (f : ℕ → ℤ) (l : List ℕ) (at : ℕ) (x : ℤ) : Type 0 where
@@ -198,14 +201,21 @@ module _ {f : ℕ → ℤ} {l : List ℕ} {at : ℕ} {x : ℤ} (p : Part f l at 
   unfolding total
   part-end h = sym (+ℤ-idr x) ∙ ap (λ ws. x +ℤ total f ws) (sym (drop-of-length-le l {i = at} h)) ∙ p .makes
 
-  -- a turn that adds y, what a call gave for word `at`
-  module _ {y : ℤ} (q : y ≡ here) (size : (w : ℕ) → natAbs (f w) ≤ mostTermTonnesBelow) (turn : (at < length l) × (length l ≤ mostTermWords)) where
+  -- an iteration that adds y, what a call gave for word `at`
+  module _ {y : ℤ} (q : y ≡ here) (size : (w : ℕ) → natAbs (f w) ≤ mostTermTonnesBelow) (in-range : (at < length l) × (length l ≤ mostTermWords)) where
     fits : natAbs x + natAbs here < 2 ^ 63
     fits =
-        omega (arith, size-part x (total f (drop at l)), ap natAbs (p .makes), total-size f size (drop at l) (omega (arith, length-drop at l, turn .1)), total-size f size l (turn .1), size (getD l at 0))
+        omega (
+          arith,
+          size-part x (total f (drop at l)),
+          ap natAbs (p .makes),
+          total-size f size (drop at l) (omega (arith, length-drop at l, in-range .1)),
+          total-size f size l (in-range .1),
+          size (getD l at 0),
+        )
 
     pub part-adds : SFits w64 (x +ℤ y)
     part-adds = add-fits w64 x refl here q fits
 
-    pub part-turn : Part f l (at + 1) (toZ w64 (ofZ w64 (x +ℤ y)))
-    part-turn = rw (add-reads w64 x refl here q fits) (part-more (turn .0))
+    pub part-next : Part f l (at + 1) (toZ w64 (ofZ w64 (x +ℤ y)))
+    part-next = rw (add-reads w64 x refl here q fits) (part-more (in-range .0))

@@ -8,7 +8,7 @@ use lib.ListN.{drop}
 use lib.IntN.{ℤ, pos, _+ℤ_}
 use Rattle.fields.specs.Fields.{termOf, yearOf, tonnesOf}
 use Rattle.fields.specs.Words.{mostTermTonnes, mostTermTonnesBelow}
-use Rattle.listing.specs.Layout.{mostTermWords, starts}
+use Rattle.listing.specs.Layout.{mostTermWords, offsets}
 
 -- what a word adds to the terms up to `last` of the years 1 to `year`
 unfoldable pub counted : ℕ → ℕ → ℕ → ℤ
@@ -21,7 +21,7 @@ total f (w ∷ ws) = f w +ℤ total f ws
 
 -- an absent term is 0
 abbrev pub termsToDate : List ℕ → ℕ → ℕ → ℤ
-termsToDate l year last = total (counted year last) (drop (starts l .terms) l)
+termsToDate l year last = total (counted year last) (drop (offsets l .terms) l)
 
 -- the most that they come to, above zero and below it
 abbrev pub mostTerms : ℕ

@@ -3,7 +3,7 @@ ghost use mathlib.Core.Path.{_≡_};
 ghost use Prim.Native.Nat.{_≤_};
 ghost use lib.ListN.{length};
 ghost use Rattle.fields.specs.Fields.{tonnesOf};
-ghost use Rattle.listing.specs.Layout.{mostTermWords, starts};
+ghost use Rattle.listing.specs.Layout.{mostTermWords, offsets};
 ghost use Rattle.listing.specs.Accepted.{Accepted};
 ghost use Rattle.terms.specs.Terms.{total, termsToDate};
 ghost use Rattle.terms.specs.Split.{upTo, Split};
@@ -19,7 +19,7 @@ pub struct TermSums {
 
 // Where the terms of the years 1 to `year` end: terms rise by year, so that these come first.
 fn end_of_year(listing: &[u32], start: usize, year: u32) -> usize
-    requires { ⌜ Accepted (now listing) × (start ≡ starts (now listing) .terms) ⌝ }
+    requires { ⌜ Accepted (now listing) × (start ≡ offsets (now listing) .terms) ⌝ }
     ensures { λ r. ⌜ Split (now (listing .entry)) year start r r ⌝ }
 {
     let mut low = start;
@@ -73,7 +73,7 @@ pub fn terms_to_date(listing: &[u32], year: u32) -> TermSums
     requires { ⌜ Accepted (now listing) ⌝ }
     ensures { λ r. ⌜ (r .all ≡ termsToDate (now (listing .entry)) year 8) × (r .buffered ≡ termsToDate (now (listing .entry)) year 5) ⌝ }
 {
-    let s = listing::starts_of(listing::head(listing));
+    let s = listing::offsets_of(listing::head(listing));
     let start = s.terms;
     let end = end_of_year(listing, start, year);
     added(&listing[start..end])

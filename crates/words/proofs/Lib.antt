@@ -6,4 +6,4 @@ pub mod Meaning
 pub mod Answers
 pub mod Blocks
 pub mod Sums
-pub mod Left
+pub mod Effect

@@ -1,5 +1,5 @@
 -- Laws of ℤ and of the machine's signed numbers, so that what is left is for `omega`: `natAbs z` bounds z on both sides by one
--- natural number, and `atLeast0` turns what is subtracted into the difference of natural numbers. Assumes nothing.
+-- natural number, and `atLeast0` makes what is subtracted into the difference of natural numbers. Assumes nothing.
 use mathlib.Core.Path.{_≡_, refl, sym, ap, ap₂, _∙_}
 use mathlib.Core.Bool.{Bool, true, false, cond, true≢false}
 use Prim.Native.Nat.{ℕ, zero, suc, _+_, _-_, _*_, _^_, _≤_, _<_}
@@ -62,7 +62,7 @@ pub size-part : (x y : ℤ) → natAbs x ≤ natAbs (x +ℤ y) + natAbs y
 size-part x y = omega (arith, ap natAbs (+ℤ-negℤ-cancel x y), size-minus (x +ℤ y) y)
 
 -- ---- what a signed operation asks, and what is read back from its result. A local holds bits: x′ is what is read back from them, `toZ w n`, and x the number that this is
--- the result of a call, where it stands for z
+-- the result of a call, where it is z
 pub call-reads : (w : Width) {x′ x : ℤ} → mag x′ < 2 ^ hbits w → x′ ≡ x → toZ w (ofZ w x′) ≡ x
 call-reads w h p = toZ-ofZ (record { sfits = h }) ∙ p
 
@@ -111,7 +111,7 @@ atLeast0-add (pos a) (negsuc b) = omega (arith, atLeast0-sub a (suc b))
 atLeast0-add (negsuc a) (pos b) = omega (arith, atLeast0-sub b (suc a))
 atLeast0-add (negsuc a) (negsuc b) = omega arith
 
--- ---- what a signed test of x against a natural number n tells: a bound on atLeast0 x, and where x is not below n that x is a natural number
+-- ---- what a signed test of x against a natural number n gives: a bound on atLeast0 x, and where x is not below n that x is a natural number
 lt-true : (z : ℤ) (n : ℕ) → ltZ z (pos n) ≡ true → atLeast0 z ≤ n - 1
 unfolding atLeast0
 lt-true (pos m) n e = omega (arith, ltb-true m n e)
@@ -143,8 +143,10 @@ diff-sub a (suc b) = refl
 pub sub-same : (a b c d : ℕ) → a + d ≡ c + b → subℕ a b ≡ subℕ c d
 sub-same a b c d h =
     by-test (λ z. z ≡ subℕ c d) (ltb a b) (negsuc (b - suc a)) (pos (a - b))
-    (λ e. by-test (λ z. negsuc (b - suc a) ≡ z) (ltb c d) (negsuc (d - suc c)) (pos (c - d)) (λ f. ap negsuc (omega (arith, ltb-true a b e, ltb-true c d f))) (λ f. absurd (omega (arith, ltb-true a b e, ltb-false c d f))))
-    (λ e. by-test (λ z. pos (a - b) ≡ z) (ltb c d) (negsuc (d - suc c)) (pos (c - d)) (λ f. absurd (omega (arith, ltb-false a b e, ltb-true c d f))) (λ f. ap pos (omega (arith, ltb-false a b e, ltb-false c d f))))
+    (λ e. by-test (λ z. negsuc (b - suc a) ≡ z) (ltb c d) (negsuc (d - suc c)) (pos (c - d)) (λ f. ap negsuc (omega (arith, ltb-true a b e, ltb-true c d f)))
+    (λ f. absurd (omega (arith, ltb-true a b e, ltb-false c d f))))
+    (λ e. by-test (λ z. pos (a - b) ≡ z) (ltb c d) (negsuc (d - suc c)) (pos (c - d)) (λ f. absurd (omega (arith, ltb-false a b e, ltb-true c d f)))
+    (λ f. ap pos (omega (arith, ltb-false a b e, ltb-false c d f))))
 
 pub diff-same : (a b c d : ℕ) → a + d ≡ c + b → pos a -ℤ pos b ≡ pos c -ℤ pos d
 diff-same a b c d h = diff-sub a b ∙ sub-same a b c d h ∙ sym (diff-sub c d)
@@ -155,7 +157,7 @@ diff-is a b c h = diff-same a b c 0 (omega arith) ∙ ap pos (omega arith)
 -- ---- x has `width` bits, and h is 2 ^ (width - 1), the highest of them: as a two's complement number x is what it is with that bit inverted,
 -- less h
 pub record Halved (width x h : ℕ) : Type 0 where
-  pub some : (0 < width) × (width < 32)
+  pub width-fits : (0 < width) × (width < 32)
   pub half : h ≡ 2 ^ (width - 1)
   pub below : x < 2 ^ width
 

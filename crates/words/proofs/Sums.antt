@@ -43,10 +43,10 @@ sum-add f g zero = refl
 sum-add f g (suc n) = omega (arith, sum-add f g n)
 
 -- by rows or by columns
-sum-turned : (h : ℕ → ℕ → ℕ) (n m : ℕ) → sumBelow (λ i. sumBelow (h i) m) n ≡ sumBelow (λ j. sumBelow (λ i. h i j) n) m
+sum-transposed : (h : ℕ → ℕ → ℕ) (n m : ℕ) → sumBelow (λ i. sumBelow (h i) m) n ≡ sumBelow (λ j. sumBelow (λ i. h i j) n) m
 unfolding sumBelow
-sum-turned h zero m = sym (sum-zero m)
-sum-turned h (suc n) m = ap (λ (s : ℕ). s + sumBelow (h n) m) (sum-turned h n m) ∙ sym (sum-add (λ j. sumBelow (λ i. h i j) n) (h n) m)
+sum-transposed h zero m = sym (sum-zero m)
+sum-transposed h (suc n) m = ap (λ (s : ℕ). s + sumBelow (h n) m) (sum-transposed h n m) ∙ sym (sum-add (λ j. sumBelow (λ i. h i j) n) (h n) m)
 
 -- only place a has a value
 sum-only : (f : ℕ → ℕ) (n a : ℕ) → a < n → ((k : ℕ) → (k ≡ a → ⊥) → f k ≡ 0) → sumBelow f n ≡ f a
@@ -58,8 +58,9 @@ sum-only f (suc n) a lt none =
     (λ other. omega (arith, sum-only f n a (omega arith) none, none n other))
 
 -- where the n places go to each other, and back again
-module _ (n : ℕ) (from to : ℕ → ℕ) (there : (m : ℕ) → to (from m) ≡ m) (back : (k : ℕ) → from (to k) ≡ k) (within : (m : ℕ) → m < n → from m < n) (within′ : (k : ℕ) → k < n → to k < n) (f : ℕ → ℕ) where
-  -- in row m the value that stands there now, in column k that of place k
+module _ (n : ℕ) (from to : ℕ → ℕ) (there : (m : ℕ) → to (from m) ≡ m) (back : (k : ℕ) → from (to k) ≡ k) (within : (m : ℕ) → m < n → from m < n)
+    (within′ : (k : ℕ) → k < n → to k < n) (f : ℕ → ℕ) where
+  -- in row m the value that is there now, in column k that of place k
   at : ℕ → ℕ → ℕ
   at m k = cond (eqb (from m) k) (f k) 0
 
@@ -73,4 +74,4 @@ module _ (n : ℕ) (from to : ℕ → ℕ) (there : (m : ℕ) → to (from m) �
 
   -- the sum stays
   pub sum-moved : (g : ℕ → ℕ) → ((m : ℕ) → m < n → g m ≡ f (from m)) → sumBelow g n ≡ sumBelow f n
-  sum-moved g same = sum-same g _ n (λ m lt. same m lt ∙ row m lt) ∙ sum-turned at n n ∙ sum-same _ f n column
+  sum-moved g same = sum-same g _ n (λ m lt. same m lt ∙ row m lt) ∙ sum-transposed at n n ∙ sum-same _ f n column

@@ -2,7 +2,7 @@
 use Prim.Native.Nat.{ℕ}
 use mathlib.Core.Bool.{Bool, true, false, cond}
 use lib.Dec.{ltb}
-use Rattle.words.specs.Search.{firstWrong}
+use Rattle.words.specs.Search.{firstInvalid}
 use Rattle.words.specs.declared.Outcome.{Outcome}
 use Rattle.words.specs.declared.Outcome.the-variants.{Done, Refused}
 use Rattle.words.specs.declared.Amount.{Amount}
@@ -36,12 +36,12 @@ unfoldable pub need : Bool → ℕ → ℕ → Answer → Answer
 need ok n k next = cond ok next (refused n k)
 
 -- refusal n at the place that a search found, if that is before the end of its range, and otherwise `next`
-unfoldable pub unfound : ℕ → ℕ → ℕ → Answer → Answer
-unfound n place end next = cond (ltb place end) (refused n place) next
+unfoldable pub needNone : ℕ → ℕ → ℕ → Answer → Answer
+needNone n place end next = cond (ltb place end) (refused n place) next
 
--- refusal n at the first place from `from` up to but not `to` that is not right, and `next` where all are right
-abbrev pub every : ℕ → (ℕ → Bool) → ℕ → ℕ → Answer → Answer
-every n right from to next = unfound n (firstWrong right from to) to next
+-- refusal n at the first place from `from` up to but not `to` that is invalid, and `next` where all are valid
+abbrev pub needAll : ℕ → (ℕ → Bool) → ℕ → ℕ → Answer → Answer
+needAll n valid from to next = needNone n (firstInvalid valid from to) to next
 
 -- a refusal of the tests before, and `next` where they were passed
 unfoldable pub after : Answer → Answer → Answer

@@ -11,11 +11,11 @@ field w position width = w / 2 ^ position % 2 ^ width
 abbrev pub bits : ℕ → ℕ → ℕ → ℕ
 bits w high low = field w low (high + 1 - low)
 
--- what `bits` is asked for: 1 to 31 of a word's 32 bits
-pub record Named (high low : ℕ) : Type 0 where
+-- what `bits` requires: 1 to 31 of a word's 32 bits
+pub record BitRange (high low : ℕ) : Type 0 where
   pub ordered : low ≤ high
   pub inside : high < 32
-  pub some : high < low + 31
+  pub width-fits : high < low + 31
 
 -- `width` bits as a two's complement number: from 2 ^ (width - 1) on, 2 ^ width less
 unfoldable pub twosComplement : ℕ → ℕ → ℤ

@@ -5,4 +5,4 @@ pub mod Refusals
 pub mod Answers
 pub mod Blocks
 pub mod Sums
-pub mod Left
+pub mod Effect

@@ -1,4 +1,4 @@
--- Document 01, "Where a call stops": the number of each refusal, in the table's order, and its place. When each is given is said in the crate
+-- Document 01, "Where a call stops": the number of each refusal, in the table's order, and its place. When each is given is stated in the crate
 -- that tests it.
 use Prim.Native.Nat.{ℕ}
 
@@ -6,7 +6,7 @@ use Prim.Native.Nat.{ℕ}
 abbrev pub tooFewWords : ℕ
 tooFewWords = 1
 
--- a word of the head that is wrong; its index
+-- a word of the head that is invalid; its index
 abbrev pub headWord : ℕ
 headWord = 2
 
@@ -14,7 +14,7 @@ headWord = 2
 abbrev pub listingShort : ℕ
 listingShort = 3
 
--- a later word that is wrong; its index
+-- a later word that is invalid; its index
 abbrev pub laterWord : ℕ
 laterWord = 4
 
@@ -30,7 +30,7 @@ bookShort = 6
 abbrev pub linesShort : ℕ
 linesShort = 7
 
--- book: a word that is wrong; its index
+-- book: a word that is invalid; its index
 abbrev pub bookWord : ℕ
 bookWord = 8
 
@@ -74,7 +74,7 @@ outOfRange = 17
 abbrev pub readingMissing : ℕ
 readingMissing = 18
 
--- discount: wrong list lengths; 0
+-- discount: invalid list lengths; 0
 abbrev pub listLengths : ℕ
 listLengths = 19
 

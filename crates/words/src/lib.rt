@@ -2,21 +2,21 @@
 // refusal of a call with its number and its place.
 ghost use mathlib.Core.Path.{_≡_};
 ghost use Prim.Native.Nat.{_^_, _<_};
-ghost use Rattle.words.specs.Bits.{bits, signedBits, isKind, within, wordOf, Named};
+ghost use Rattle.words.specs.Bits.{bits, signedBits, isKind, within, wordOf, BitRange};
 ghost use Rattle.words.specs.Answers.{refused, outcome, amount};
 
-// The numbers of document 01, "Where a call stops", in the order of its table.
+// The numbers of document 01, "Where a call stops", in the order of its table; 14 is proved not to arise.
 
 // Listing: too few words for a head; place 0.
 pub const TOO_FEW_WORDS: u32 = 1;
 
-// A word of the head that is wrong; its index.
+// A word of the head that is invalid; its index.
 pub const HEAD_WORD: u32 = 2;
 
 // Too short for its head; its length.
 pub const LISTING_SHORT: u32 = 3;
 
-// A later word that is wrong; its index.
+// A later word that is invalid; its index.
 pub const LATER_WORD: u32 = 4;
 
 // Term not above the one before; the later index.
@@ -28,7 +28,7 @@ pub const BOOK_SHORT: u32 = 6;
 // Lines too short (close); its length.
 pub const LINES_SHORT: u32 = 7;
 
-// Book: a word that is wrong; its index.
+// Book: a word that is invalid; its index.
 pub const BOOK_WORD: u32 = 8;
 
 // Call: close at the horizon; place 0.
@@ -46,9 +46,6 @@ pub const CELL_CONVERTED: u32 = 12;
 // New year not ahead (replan); place 0.
 pub const YEAR_NOT_AHEAD: u32 = 13;
 
-// A kg line too large for its word (close); the cell.
-pub const LINE_TOO_LARGE: u32 = 14;
-
 // Forecast: output too short; its length.
 pub const OUTPUT_SHORT: u32 = 15;
 
@@ -61,7 +58,7 @@ pub const OUT_OF_RANGE: u32 = 17;
 // Missing; place 0.
 pub const READING_MISSING: u32 = 18;
 
-// Discount: wrong list lengths; place 0.
+// Discount: invalid list lengths; place 0.
 pub const LIST_LENGTHS: u32 = 19;
 
 // A value too large; the list, 0–3.
@@ -73,13 +70,13 @@ pub struct Refusal {
     pub place: usize,
 }
 
-// The answer of a call that hands out nothing else.
+// The answer of a call that returns nothing else.
 pub enum Outcome {
     Done,
     Refused(Refusal),
 }
 
-// The answer of a call that hands out a number: tonnes, mm or ten-thousandths.
+// The answer of a call that returns a number: tonnes, mm or ten-thousandths.
 pub enum Amount {
     Value(u32),
     Refused(Refusal),
@@ -101,7 +98,7 @@ pub fn refuse_amount(number: u32, place: usize) -> Amount
 
 // Bits `high` to `low` of `w`, as a number.
 pub fn bits(w: u32, high: u32, low: u32) -> u32
-    requires { ⌜ Named high low ⌝ }
+    requires { ⌜ BitRange high low ⌝ }
     ensures { λ r. ⌜ r ≡ bits w high low ⌝ }
 {
     (w >> low) & ((1u32 << (high + 1 - low)) - 1)
@@ -109,7 +106,7 @@ pub fn bits(w: u32, high: u32, low: u32) -> u32
 
 // Bits `high` to `low` of `w`, as a two's complement number.
 pub fn signed_bits(w: u32, high: u32, low: u32) -> i32
-    requires { ⌜ Named high low ⌝ }
+    requires { ⌜ BitRange high low ⌝ }
     ensures { λ r. ⌜ r ≡ signedBits w high low ⌝ }
 {
     let x = bits(w, high, low);
@@ -126,7 +123,7 @@ pub fn is_kind(w: u32, kind: u32) -> bool
 
 // Whether bits `high` to `low` of `w` are a number from `least` to `most`.
 pub fn between(w: u32, high: u32, low: u32, least: u32, most: u32) -> bool
-    requires { ⌜ Named high low ⌝ }
+    requires { ⌜ BitRange high low ⌝ }
     ensures { λ r. ⌜ r ≡ within least most (bits w high low) ⌝ }
 {
     let x = bits(w, high, low);

@@ -10,7 +10,7 @@ use Rattle.fields.specs.declared.Cell.{Cell}
 use Rattle.listing.specs.Layout.{head, guard, row as table}
 use Rattle.year.specs.Year.{burnedBy, oxidisedBy, emission, yearLoss}
 use Rattle.book.specs.Layout.{oxidisedLine, burnedLine, kgLine}
-use Rattle.ledger.specs.Calls.{opening, closing, issuing, stating}
+use Rattle.ledger.specs.Calls.{openEffect, closeEffect, issueEffect, statementAnswer}
 use Rattle.reading.specs.Depth.{depth}
 use Rattle.reading.specs.declared.Reading.the-variants.{Core, Levels}
 use Rattle.discount.specs.Discount.{factor}
@@ -33,18 +33,18 @@ appended = listing ++ (0x6505FF9C ∷ [])
 
 -- "d, o, b, R to burned, oxidised"
 abbrev pub burns : ℕ → ℕ → ℕ → ℕ → List ℕ
-burns d o b left =
-    let burned = burnedBy (guard listing) d b left in
-    burned ∷ oxidisedBy d o left burned ∷ []
+burns d o b R =
+    let burned = burnedBy (guard listing) d b R in
+    burned ∷ oxidisedBy d o R burned ∷ []
 
 -- a cell of the listing's stratum with so many mm entered, and area × q = K = 5,000,000
-abbrev pub cellOf : ℕ → Cell
-cellOf mm = record { stratum = 0; conversion = 1; entered = mm; area = 10000; density = 500 }
+abbrev pub cellEntered : ℕ → Cell
+cellEntered mm = record { stratum = 0; conversion = 1; entered = mm; area = 10000; density = 500 }
 
 -- "Entered .., first row": the cell's first year, with the listing's row of d 700, o 45, b 340
 abbrev pub enters : ℕ → List ℕ
 enters mm =
-    let s = yearLoss (head listing) (table listing) (cellOf mm) (record { withdrawn = false; plan = 1; oxidised = 0; burned = 0 }) 1 in
+    let s = yearLoss (head listing) (table listing) (cellEntered mm) (record { withdrawn = false; plan = 1; oxidised = 0; burned = 0 }) 1 in
     s .burned ∷ s .oxidised ∷ []
 
 -- its book as opened, and after each of its years is closed and issued: year, tonnes issued, plan year, O, B
@@ -65,8 +65,8 @@ zeros (suc n) = 0 ∷ zeros n
 -- the year after a book, as `peatrun` prints it (mm oxidised and burned, kg, tonnes), and the book then
 abbrev pub year : List ℕ → List ℕ → List ℕ
 year l b =
-    let m = closing l b (zeros 3) in
-    let paid = issuing l (m .book) in
+    let m = closeEffect l b (zeros 3) in
+    let paid = issueEffect l (m .book) in
     oxidisedLine (m .output) 0 ∷ burnedLine (m .output) 0 ∷ kgLine (m .output) 0 ∷ paid .answer .value ∷ paid .book
 
 -- a depth by the patterns of its binary32 numbers
@@ -85,11 +85,11 @@ rows =
     ∷ row (burns 30 45 0 2000) (0 ∷ 30 ∷ [])
     ∷ row (enters 299) (0 ∷ 0 ∷ [])
     ∷ row (enters 300) (300 ∷ 0 ∷ [])
-    ∷ row (emission (head listing) (cellOf 2000) 45 300 ∷ []) (692500 ∷ [])
-    ∷ row (opening listing (zeros 5) .book) opened
+    ∷ row (emission (head listing) (cellEntered 2000) 45 300 ∷ []) (692500 ∷ [])
+    ∷ row (openEffect listing (zeros 5) .book) opened
     ∷ row (year listing opened) (45 ∷ 300 ∷ 692500 ∷ 553 ∷ afterOne)
     ∷ row (year listing afterOne) (45 ∷ 0 ∷ 82500 ∷ 67 ∷ afterTwo)
-    ∷ row (stating listing afterTwo 0 .account .remaining ∷ []) (1610 ∷ [])
+    ∷ row (statementAnswer listing afterTwo 0 .figures .remaining ∷ []) (1610 ∷ [])
     ∷ row (year appended opened) (45 ∷ 300 ∷ 692500 ∷ 553 ∷ afterOne)
     ∷ row (take 4 (year appended afterOne)) (45 ∷ 0 ∷ 82500 ∷ 0 ∷ [])
     ∷ row (core 0x3F333333) (699 ∷ [])

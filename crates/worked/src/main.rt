@@ -17,7 +17,7 @@ fn line(name: &[u8], number: u64, place: u64, value: u64) {
     io::write_all(1, b"\n");
 }
 
-fn answered(name: &[u8], answer: Outcome) {
+fn print_outcome(name: &[u8], answer: Outcome) {
     match answer {
         Outcome::Done => {
             line(name, 0, 0, 0);
@@ -28,12 +28,12 @@ fn answered(name: &[u8], answer: Outcome) {
     }
 }
 
-fn checked(name: &[u8], listing: &[u32]) {
-    answered(name, listing::check(listing));
+fn print_check(name: &[u8], listing: &[u32]) {
+    print_outcome(name, listing::check(listing));
 }
 
 // An issue's tonnes, a reading's mm or a discount's ten-thousandths.
-fn valued(name: &[u8], answer: Amount) {
+fn print_amount(name: &[u8], answer: Amount) {
     match answer {
         Amount::Value(v) => {
             line(name, 0, 0, v as u64);
@@ -45,9 +45,9 @@ fn valued(name: &[u8], answer: Amount) {
 }
 
 // What remains of a cell.
-fn remains(name: &[u8], answer: Stated) {
+fn print_remaining(name: &[u8], answer: Stated) {
     match answer {
-        Stated::Told(a) => {
+        Stated::Value(a) => {
             line(name, 0, 0, a.remaining as u64);
         }
         Stated::Refused(r) => {
@@ -57,7 +57,7 @@ fn remains(name: &[u8], answer: Stated) {
 }
 
 // The three lines of cell `i`, each on a line of its own: mm oxidised, mm burned, kg.
-fn handed(name: &[u8], lines: &[u32], i: usize) {
+fn print_lines(name: &[u8], lines: &[u32], i: usize) {
     let mut k: usize = 0;
     while k < lines.len() {
         if k / 3 == i {
@@ -67,8 +67,8 @@ fn handed(name: &[u8], lines: &[u32], i: usize) {
     }
 }
 
-fn measured(name: &[u8], reading: Reading) {
-    valued(name, reading::depth(reading));
+fn print_reading(name: &[u8], reading: Reading) {
+    print_amount(name, reading::depth(reading));
 }
 
 // Whether the terms up to `last`, 5 or 8, of the years 1 to `year` come to `tonnes`.
@@ -83,9 +83,9 @@ fn terms_are(listing: &[u32], year: u32, last: u32, tonnes: i64) -> bool {
     }
 }
 
-fn summed(name: &[u8], right: bool) {
+fn print_terms(name: &[u8], agrees: bool) {
     io::write_all(1, name);
-    if right {
+    if agrees {
         io::write_all(1, b": right\n");
     } else {
         io::write_all(1, b": wrong\n");
@@ -102,21 +102,21 @@ fn listings() {
         0x4001_07d0,
         0x5271_01f4,
     ];
-    checked(b"worked listing", &l);
-    checked(b"no word", &l[..0]);
-    checked(b"one word", &l[..1]);
-    checked(b"five words", &l[..5]);
+    print_check(b"worked listing", &l);
+    print_check(b"no word", &l[..0]);
+    print_check(b"one word", &l[..1]);
+    print_check(b"five words", &l[..5]);
     l[5] = 0x5271_11f4;
-    checked(b"area 10,001", &l);
+    print_check(b"area 10,001", &l);
     l[3] = 0x4460_b400;
-    checked(b"table word of kind 4", &l);
+    print_check(b"table word of kind 4", &l);
     l[1] = 0x2094_190c;
-    checked(b"bit 23 of word 1", &l);
+    print_check(b"bit 23 of word 1", &l);
     l[0] = 0x1101_0102;
-    checked(b"257 cells", &l);
+    print_check(b"257 cells", &l);
 }
 
-// The worked listing with terms: -100 t of term 5 and 100 t of term 8 in year 2, and what is wrong.
+// The worked listing with terms: -100 t of term 5 and 100 t of term 8 in year 2, and what is invalid.
 fn terms() {
     let mut l = [
         0x1001_0102u32,
@@ -129,34 +129,34 @@ fn terms() {
         0x6804_0064,
         0x6205_ff9c,
     ];
-    checked(b"6505FF9C appended", &l[..7]);
-    summed(b"terms 1 to 5 of year 1", terms_are(&l[..8], 1, 5, 0));
-    summed(
+    print_check(b"6505FF9C appended", &l[..7]);
+    print_terms(b"terms 1 to 5 of year 1", terms_are(&l[..8], 1, 5, 0));
+    print_terms(
         b"terms 1 to 5 of years 1 to 2",
         terms_are(&l[..8], 2, 5, -100),
     );
-    summed(b"terms 1 to 8 of years 1 to 2", terms_are(&l[..8], 2, 8, 0));
-    checked(b"term 2", &l);
+    print_terms(b"terms 1 to 8 of years 1 to 2", terms_are(&l[..8], 2, 8, 0));
+    print_check(b"term 2", &l);
     l[7] = 0x6505_ff9c;
-    checked(b"a term twice", &l[..8]);
-    checked(b"a term twice, then term 2", &l);
+    print_check(b"a term twice", &l[..8]);
+    print_check(b"a term twice, then term 2", &l);
 }
 
 fn readings() {
-    measured(b"core 0.7", Reading::Core(0.7));
-    measured(b"core -0", Reading::Core(-0.0));
-    measured(b"core 20", Reading::Core(20.0));
-    measured(b"core above 20", Reading::Core(20.000002));
-    measured(b"core not a number", Reading::Core(0.0 / 0.0));
-    measured(b"levels 12.5 and 10.25", Reading::Levels(12.5, 10.25));
-    measured(b"levels -0.7 and -1.5", Reading::Levels(-0.7, -1.5));
-    measured(
+    print_reading(b"core 0.7", Reading::Core(0.7));
+    print_reading(b"core -0", Reading::Core(-0.0));
+    print_reading(b"core 20", Reading::Core(20.0));
+    print_reading(b"core above 20", Reading::Core(20.000002));
+    print_reading(b"core not a number", Reading::Core(0.0 / 0.0));
+    print_reading(b"levels 12.5 and 10.25", Reading::Levels(12.5, 10.25));
+    print_reading(b"levels -0.7 and -1.5", Reading::Levels(-0.7, -1.5));
+    print_reading(
         b"levels 3001 and not a number",
         Reading::Levels(3001.0, 0.0 / 0.0),
     );
-    measured(b"levels 3001 and 0", Reading::Levels(3001.0, 0.0));
-    measured(b"levels 10 and 10.5", Reading::Levels(10.0, 10.5));
-    measured(b"no reading", Reading::Missing);
+    print_reading(b"levels 3001 and 0", Reading::Levels(3001.0, 0.0));
+    print_reading(b"levels 10 and 10.5", Reading::Levels(10.0, 10.5));
+    print_reading(b"no reading", Reading::Missing);
 }
 
 fn discounts() {
@@ -165,11 +165,11 @@ fn discounts() {
     let width = [150u32];
     let more = [3000u32];
     let less = [2000u32];
-    valued(
+    print_amount(
         b"Q 22,500, D 1000",
         discount::discount(&width, &none, &more, &less),
     );
-    valued(
+    print_amount(
         b"Q 22,501, D 1000",
         discount::discount(&width, &one, &less, &more),
     );
@@ -177,20 +177,20 @@ fn discounts() {
     let second = [0u32, 160];
     let halves = [1500u32, 1500];
     let thirds = [1000u32, 1000];
-    valued(
+    print_amount(
         b"Q 40,000, D 1000",
         discount::discount(&first, &second, &halves, &thirds),
     );
-    valued(
+    print_amount(
         b"no distance",
         discount::discount(&width, &one, &more, &more),
     );
-    valued(
+    print_amount(
         b"unequal lists",
         discount::discount(&width, &second, &more, &less),
     );
     let large = [20_001u32];
-    valued(
+    print_amount(
         b"20,001 in list 2",
         discount::discount(&width, &one, &large, &large),
     );
@@ -198,37 +198,37 @@ fn discounts() {
 
 // What is refused of a book that was not opened, and of buffers that are too short.
 fn unopened(l: &[u32], b: &mut [u32], x: &mut [u32]) {
-    answered(b"close of a book of zeros", ledger::close(l, b, x));
-    answered(b"no book", ledger::open(l, &mut []));
-    answered(b"open", ledger::open(l, b));
-    answered(b"no lines", ledger::close(l, b, &mut []));
-    valued(b"issue in year 0", ledger::issue(l, b));
+    print_outcome(b"close of a book of zeros", ledger::close(l, b, x));
+    print_outcome(b"no book", ledger::open(l, &mut []));
+    print_outcome(b"open", ledger::open(l, b));
+    print_outcome(b"no lines", ledger::close(l, b, &mut []));
+    print_amount(b"issue in year 0", ledger::issue(l, b));
 }
 
 // A closing and an issue.
 fn year(l: &[u32], b: &mut [u32], x: &mut [u32], i: usize) {
-    answered(b"close", ledger::close(l, b, &mut x[..]));
-    handed(b"its lines", &x[..], i);
-    valued(b"issue", ledger::issue(l, b));
+    print_outcome(b"close", ledger::close(l, b, &mut x[..]));
+    print_lines(b"its lines", &x[..], i);
+    print_amount(b"issue", ledger::issue(l, b));
 }
 
 // What is refused once the horizon is reached and the cell is converted.
 fn converted(l: &[u32], b: &mut [u32], x: &mut [u32]) {
-    answered(b"close at the horizon", ledger::close(l, b, x));
-    answered(b"replan of a converted cell", ledger::replan(l, b, 0, 0));
-    remains(b"left", ledger::statement(l, &b[..], 0));
-    remains(b"no such cell", ledger::statement(l, &b[..], 1));
+    print_outcome(b"close at the horizon", ledger::close(l, b, x));
+    print_outcome(b"replan of a converted cell", ledger::replan(l, b, 0, 0));
+    print_remaining(b"left", ledger::statement(l, &b[..], 0));
+    print_remaining(b"no such cell", ledger::statement(l, &b[..], 1));
 }
 
 // A withdrawal, and what is refused after it.
 fn withdrawn(l: &[u32], b: &mut [u32]) {
-    answered(b"withdraw", ledger::withdraw(l, b, 0));
-    answered(b"withdraw again", ledger::withdraw(l, b, 0));
+    print_outcome(b"withdraw", ledger::withdraw(l, b, 0));
+    print_outcome(b"withdraw again", ledger::withdraw(l, b, 0));
 }
 
 // The listing with 6505FF9C appended: a term of -100 t in year 2.
 fn appended(l: &[u32], b: &mut [u32], x: &mut [u32]) {
-    answered(b"open with 6505FF9C appended", ledger::open(l, b));
+    print_outcome(b"open with 6505FF9C appended", ledger::open(l, b));
     year(l, b, x, 0);
     year(l, b, x, 0);
 }
@@ -256,12 +256,12 @@ fn worked() {
 
 // A year of the second cell, with the first withdrawn.
 fn behind(l: &[u32], b: &mut [u32], x: &mut [u32]) {
-    answered(b"open two cells", ledger::open(l, b));
-    answered(b"withdraw the first", ledger::withdraw(l, b, 0));
+    print_outcome(b"open two cells", ledger::open(l, b));
+    print_outcome(b"withdraw the first", ledger::withdraw(l, b, 0));
     year(l, b, x, 1);
 }
 
-// Two cells of two strata, of which one is not drained. The drained one stands first and is
+// Two cells of two strata, of which one is not drained. The drained one is first and is
 // withdrawn: the other loses nothing. Then they change places.
 fn neighbours() {
     let mut l = [

@@ -1,4 +1,4 @@
--- A cell's year: its products fit, an emission grows with what is lost, no more is lost than there is, and which figures it goes by.
+-- A cell's year: its products fit, an emission grows with what is lost, no more is lost than there is, and which figures it depends on.
 -- Assumes nothing.
 use mathlib.Core.Path.{_≡_, refl, sym, ap, _∙_}
 use mathlib.Core.Bool.{Bool, true, false, _||_, true≢false}
@@ -8,11 +8,12 @@ use native.Mathlib.Omega.{arith}
 use lib.Dec.{ltb, eqb}
 use borrow.Author.Tests.{lt-ltb, ltb-false, eqb-false}
 use Rattle.words.proofs.Signed.{by-test}
-use Rattle.fields.specs.Right.{HeadRight, RowRight, CellRight}
+use Rattle.fields.specs.Valid.{HeadValid, RowValid, CellValid}
 use Rattle.fields.specs.declared.Head.{Head}
 use Rattle.fields.specs.declared.Row.{Row}
 use Rattle.fields.specs.declared.Cell.{Cell}
-use Rattle.year.specs.Year.{unconverted, rests, age, drained, remaining, burnedBy, oxidisedBy, fire, mmOf, noMm, yearMm, emission, kgOf, lossOf, yearLoss, none, mostLine, mostEmission, mostLoss, grown}
+use Rattle.year.specs.Year.{unconverted, inactive, age, drained, remaining, burnedBy, oxidisedBy, fire, mmOf, noMm, yearMm, emission, kgOf, lossOf, yearLoss}
+use Rattle.year.specs.Year.{noLoss, mostLine, mostEmission, mostLoss, afterLoss}
 use Rattle.year.specs.Fit.{Fit, SameFigures}
 use Rattle.year.specs.declared.Entry.{Entry}
 use Rattle.year.specs.declared.Depths.{Depths}
@@ -24,8 +25,8 @@ use Rattle.year.specs.declared.Loss.{Loss}
 abbrev pub weight : Head → Cell → ℕ → ℕ → ℕ
 weight h c o b = c .area * c .density * (11000 * (o + b) + 4 * h .warming * h .methane * b)
 
--- by the limits of a right listing, with at most m mm lost and at most n mm of it burned
-module _ {h : Head} {c : Cell} (head : HeadRight h) (cell : CellRight (h .strata) (h .horizon) c) where
+-- by the limits of a valid listing, with at most m mm lost and at most n mm of it burned
+module _ {h : Head} {c : Cell} (head : HeadValid h) (cell : CellValid (h .strata) (h .horizon) c) where
   pub area-most : c .area * c .density ≤ 24000000
   area-most = mul-le-mul {n₂ = 10000} {m₂ = 2400} (cell .area .1) (cell .density .1)
 
@@ -41,24 +42,24 @@ module _ {h : Head} {c : Cell} (head : HeadRight h) (cell : CellRight (h .strata
 -- 20,000 mm
 module _ {h : Head} {c : Cell} {o b : ℕ} (fit : Fit h c o b) where
   pub lost-most : o + b ≤ 20000
-  lost-most = let most = fit .cell-right .entered in let lost = fit .lost in omega arith
+  lost-most = let most = fit .cell-valid .entered in let lost = fit .lost in omega arith
 
   burned-most : b ≤ 20000
   burned-most = omega (arith, lost-most)
 
   pub fit-methane : 4 * h .warming * h .methane * b ≤ 800000000
-  fit-methane = methane-most (fit .head-right) (fit .cell-right) burned-most
+  fit-methane = methane-most (fit .head-valid) (fit .cell-valid) burned-most
 
   pub fit-weight : weight h c o b ≤ 24480000000000000
-  fit-weight = weight-most (fit .head-right) (fit .cell-right) o b lost-most burned-most
+  fit-weight = weight-most (fit .head-valid) (fit .cell-valid) o b lost-most burned-most
 
   pub emission-most : emission h c o b ≤ mostEmission
   unfolding emission
   emission-most = omega (arith, fit-weight)
 
 -- nothing lost leaves an entry as it was
-pub grown-none : (e : Entry) → grown e none ≡ e
-grown-none e = rw (add-zero (e .oxidised), add-zero (e .burned))
+pub after-loss-none : (e : Entry) → afterLoss e noLoss ≡ e
+after-loss-none e = rw (add-zero (e .oxidised), add-zero (e .burned))
 
 -- nothing lost is nothing emitted
 pub emission-none : (h : Head) (c : Cell) → emission h c 0 0 ≡ 0
@@ -82,13 +83,13 @@ module _ (h : Head) (c : Cell) (o b o′ b′ : ℕ) where
   emission-grows = omega (arith, more)
 
 -- ---- a year's two losses, by the figures of a row
-module _ (guard d b left : ℕ) where
-  pub burned-least : (burnedBy guard d b left ≤ b) × (burnedBy guard d b left ≤ left) × (burnedBy guard d b left ≤ d - guard)
+module _ (guard d b R : ℕ) where
+  pub burned-least : (burnedBy guard d b R ≤ b) × (burnedBy guard d b R ≤ R) × (burnedBy guard d b R ≤ d - guard)
   unfolding burnedBy
   burned-least = (omega arith, omega arith, omega arith)
 
-module _ (d o left burned : ℕ) where
-  oxidised-least : (oxidisedBy d o left burned ≤ o) × (oxidisedBy d o left burned ≤ left - burned)
+module _ (d o R burned : ℕ) where
+  oxidised-least : (oxidisedBy d o R burned ≤ o) × (oxidisedBy d o R burned ≤ R - burned)
   unfolding oxidisedBy
   oxidised-least = (omega arith, omega arith)
 
@@ -126,7 +127,7 @@ module _ (h : Head) (c : Cell) where
   unfolding mostLoss
   most-peat e = rw e
 
--- ---- who rests
+-- ---- which cells are inactive
 or-false : (a b : Bool) → (a || b) ≡ false → (a ≡ false) × (b ≡ false)
 or-false true b h = absurd (true≢false h)
 or-false false b h = (refl, h)
@@ -149,48 +150,48 @@ pub converted : (plan t : ℕ) → unconverted plan t ≡ false → (1 ≤ plan)
 unfolding unconverted
 converted plan t q =
     let h = or-false (eqb plan 0) (ltb t plan) q in
-    let some : plan ≡ 0 → ⊥ = eqb-false plan 0 (h .0) in
+    let nonzero : plan ≡ 0 → ⊥ = eqb-false plan 0 (h .0) in
     let le = ltb-false t plan (h .1) in
     (omega arith, le)
 
 module _ (h : Head) (c : Cell) (e : Entry) (t : ℕ) where
-  unconverted-rests : unconverted (e .plan) t ≡ true → rests h c e t ≡ true
-  unfolding rests
-  unconverted-rests q = rw (q, or-true (e .withdrawn))
+  unconverted-inactive : unconverted (e .plan) t ≡ true → inactive h c e t ≡ true
+  unfolding inactive
+  unconverted-inactive q = rw (q, or-true (e .withdrawn))
 
-  -- a cell that does not rest is converted, and is peat
-  pub active : rests h c e t ≡ false → (unconverted (e .plan) t ≡ false) × (ltb (c .entered) (h .thickness) ≡ false)
-  unfolding rests
+  -- an active cell is converted, and is peat
+  pub active : inactive h c e t ≡ false → (unconverted (e .plan) t ≡ false) × (ltb (c .entered) (h .thickness) ≡ false)
+  unfolding inactive
   active q = or-false (unconverted (e .plan) t) _ (or-false (e .withdrawn) _ q .1)
 
--- ---- the year, whether the cell rests or not
+-- ---- the year, whether the cell is active or not
 module _ (h : Head) (rows : ℕ → ℕ → Row) (c : Cell) (e : Entry) (t : ℕ) where
   abbrev row : Row
   row = rows (c .stratum) (age (e .plan) t)
 
-  pub mm-rests : rests h c e t ≡ true → yearMm h rows c e t ≡ noMm
+  pub mm-inactive : inactive h c e t ≡ true → yearMm h rows c e t ≡ noMm
   unfolding yearMm
-  mm-rests q = rw q
+  mm-inactive q = rw q
 
-  pub mm-active : rests h c e t ≡ false → yearMm h rows c e t ≡ mmOf h c row e
+  pub mm-active : inactive h c e t ≡ false → yearMm h rows c e t ≡ mmOf h c row e
   unfolding yearMm
   mm-active q = rw q
 
-  pub loss-rests : rests h c e t ≡ true → yearLoss h rows c e t ≡ none
+  pub loss-inactive : inactive h c e t ≡ true → yearLoss h rows c e t ≡ noLoss
   unfolding yearLoss
-  loss-rests q = rw (mm-rests q, add-zero (e .oxidised), add-zero (e .burned), sub-self (kgOf h c e))
+  loss-inactive q = rw (mm-inactive q, add-zero (e .oxidised), add-zero (e .burned), sub-self (kgOf h c e))
 
-  pub unconverted-loss : unconverted (e .plan) t ≡ true → yearLoss h rows c e t ≡ none
-  unconverted-loss q = loss-rests (unconverted-rests h c e t q)
+  pub unconverted-loss : unconverted (e .plan) t ≡ true → yearLoss h rows c e t ≡ noLoss
+  unconverted-loss q = loss-inactive (unconverted-inactive h c e t q)
 
-  pub loss-active : rests h c e t ≡ false → yearLoss h rows c e t ≡ lossOf h c row e
+  pub loss-active : inactive h c e t ≡ false → yearLoss h rows c e t ≡ lossOf h c row e
   unfolding yearLoss lossOf
   loss-active q = rw (mm-active q)
 
   -- by the two cases
-  mm-is : (P : Depths → Type 0) → (rests h c e t ≡ true → P noMm) → (rests h c e t ≡ false → P (mmOf h c row e)) → P (yearMm h rows c e t)
+  mm-is : (P : Depths → Type 0) → (inactive h c e t ≡ true → P noMm) → (inactive h c e t ≡ false → P (mmOf h c row e)) → P (yearMm h rows c e t)
   unfolding yearMm
-  mm-is P p q = by-test P (rests h c e t) noMm (mmOf h c row e) p q
+  mm-is P p q = by-test P (inactive h c e t) noMm (mmOf h c row e) p q
 
   -- no more is lost after the year than can be
   pub year-most : e .oxidised + e .burned ≤ mostLoss h c → (e .oxidised + yearLoss h rows c e t .oxidised) + (e .burned + yearLoss h rows c e t .burned) ≤ mostLoss h c
@@ -212,12 +213,12 @@ module _ (h : Head) (rows : ℕ → ℕ → Row) (c : Cell) (e : Entry) (t : ℕ
       (λ q z. absurd (omega arith))
       (λ q z. (active h c e t q .0, let m = mm-least h c row e in omega arith))
 
-  -- by the limits of a right listing: no more than 2,046 mm are lost, no more than 1,023 mm of them burned
-  module _ (head : HeadRight h) (cell : CellRight (h .strata) (h .horizon) c) (right : (s a : ℕ) → RowRight (rows s a)) where
+  -- by the limits of a valid listing: no more than 2,046 mm are lost, no more than 1,023 mm of them burned
+  module _ (head : HeadValid h) (cell : CellValid (h .strata) (h .horizon) c) (valid : (s a : ℕ) → RowValid (rows s a)) where
     mm-most : (yearMm h rows c e t .oxidised + yearMm h rows c e t .burned ≤ 2046) × (yearMm h rows c e t .burned ≤ 1023)
     mm-most =
         mm-is (λ (m : Depths). (m .oxidised + m .burned ≤ 2046) × (m .burned ≤ 1023)) (λ q. (omega arith, omega arith))
-        (λ q. let m = mm-least h c row e in let r = right (c .stratum) (age (e .plan) t) in (omega arith, omega arith))
+        (λ q. let m = mm-least h c row e in let r = valid (c .stratum) (age (e .plan) t) in (omega arith, omega arith))
 
     pub year-kg-most : yearLoss h rows c e t .kg ≤ mostLine
     unfolding yearLoss
@@ -225,11 +226,11 @@ module _ (h : Head) (rows : ℕ → ℕ → Row) (c : Cell) (e : Entry) (t : ℕ
         let m = yearMm h rows c e t in
         omega (arith, emission-more h c (e .oxidised) (e .burned) (m .oxidised) (m .burned) mostLine (weight-most head cell (m .oxidised) (m .burned) (mm-most .0) (mm-most .1)))
 
--- ---- the year goes by four figures of the head, the cell, its entry and its own row
+-- ---- the year depends on four figures of the head, the cell, its entry and its own row
 module _ {h h′ : Head} (figures : SameFigures h h′) (c : Cell) (e : Entry) where
-  rests-same : (t : ℕ) → rests h c e t ≡ rests h′ c e t
-  unfolding rests
-  rests-same t = rw (figures .thickness)
+  inactive-same : (t : ℕ) → inactive h c e t ≡ inactive h′ c e t
+  unfolding inactive
+  inactive-same t = rw (figures .thickness)
 
   mm-same : (r : Row) → mmOf h c r e ≡ mmOf h′ c r e
   unfolding mmOf
@@ -243,8 +244,8 @@ module _ {h h′ : Head} (figures : SameFigures h h′) (c : Cell) (e : Entry) w
     pub mm-by-figures : yearMm h rows c e t ≡ yearMm h′ rows′ c e t
     mm-by-figures =
         mm-is h rows c e t (λ (m : Depths). m ≡ yearMm h′ rows′ c e t)
-        (λ q. sym (mm-rests h′ rows′ c e t (sym (rests-same t) ∙ q)))
-        (λ q. mm-same _ ∙ ap (λ (r : Row). mmOf h′ c r e) (same (active h c e t q .0)) ∙ sym (mm-active h′ rows′ c e t (sym (rests-same t) ∙ q)))
+        (λ q. sym (mm-inactive h′ rows′ c e t (sym (inactive-same t) ∙ q)))
+        (λ q. mm-same _ ∙ ap (λ (r : Row). mmOf h′ c r e) (same (active h c e t q .0)) ∙ sym (mm-active h′ rows′ c e t (sym (inactive-same t) ∙ q)))
 
     pub loss-by-figures : yearLoss h rows c e t ≡ yearLoss h′ rows′ c e t
     unfolding yearLoss

@@ -14,8 +14,8 @@ unfoldable pub unconverted : ℕ → ℕ → Bool
 unconverted plan t = eqb plan 0 || ltb t plan
 
 -- a cell loses nothing in t if it is withdrawn, if its plan year is 0 or above t, or if its entered depth is below the least thickness
-unfoldable pub rests : Head → Cell → Entry → ℕ → Bool
-rests h c e t = e .withdrawn || (unconverted (e .plan) t || ltb (c .entered) (h .thickness))
+unfoldable pub inactive : Head → Cell → Entry → ℕ → Bool
+inactive h c e t = e .withdrawn || (unconverted (e .plan) t || ltb (c .entered) (h .thickness))
 
 -- otherwise its age is t − c + 1
 abbrev pub age : ℕ → ℕ → ℕ
@@ -31,13 +31,13 @@ remaining c e = c .entered - (e .oxidised + e .burned)
 
 -- burned: the least of b, R, and d − guard (0 if d is below the guard)
 unfoldable pub burnedBy : ℕ → ℕ → ℕ → ℕ → ℕ
-burnedBy guard d b left = min b (min left (d - guard))
+burnedBy guard d b R = min b (min R (d - guard))
 
 -- oxidised: the least of o, R − burned, and d − burned
 unfoldable pub oxidisedBy : ℕ → ℕ → ℕ → ℕ → ℕ
-oxidisedBy d o left burned = min o (min (left - burned) (d - burned))
+oxidisedBy d o R burned = min o (min (R - burned) (d - burned))
 
--- a cell that does not rest, with row r: what it burns, and with that what it oxidises
+-- an active cell, with row r: what it burns, and with that what it oxidises
 abbrev pub fire : Head → Cell → Row → Entry → ℕ
 fire h c r e = burnedBy (h .guard) (drained r) (r .burning) (remaining c e)
 
@@ -50,7 +50,7 @@ noMm = record { oxidised = 0; burned = 0 }
 
 -- the mm of a cell's year t: the row is that of the cell's own stratum and of its own age
 unfoldable pub yearMm : Head → (ℕ → ℕ → Row) → Cell → Entry → ℕ → Depths
-yearMm h rows c e t = cond (rests h c e t) noMm (mmOf h c (rows (c .stratum) (age (e .plan) t)) e)
+yearMm h rows c e t = cond (inactive h c e t) noMm (mmOf h c (rows (c .stratum) (age (e .plan) t)) e)
 
 -- emission to date in kg CO2e: K × (11,000 × (O + B) + 4 × G × e × B) / 30,000,000, rounded down, with K = area × q
 unfoldable pub emission : Head → Cell → ℕ → ℕ → ℕ
@@ -64,16 +64,16 @@ kgOf h c e = emission h c (e .oxidised) (e .burned)
 abbrev pub withKg : Head → Cell → Entry → Depths → Loss
 withKg h c e m = record { oxidised = m .oxidised; burned = m .burned; kg = emission h c (e .oxidised + m .oxidised) (e .burned + m .burned) - kgOf h c e }
 
--- the loss of a cell that does not rest, and that of a cell's year t: its mm, with their kg
+-- the loss of an active cell, and that of a cell's year t: its mm, with their kg
 unfoldable pub lossOf : Head → Cell → Row → Entry → Loss
 lossOf h c r e = withKg h c e (mmOf h c r e)
 
 unfoldable pub yearLoss : Head → (ℕ → ℕ → Row) → Cell → Entry → ℕ → Loss
 yearLoss h rows c e t = withKg h c e (yearMm h rows c e t)
 
--- nothing: what a cell that rests loses
-abbrev pub none : Loss
-none = record { oxidised = 0; burned = 0; kg = 0 }
+-- nothing: what an inactive cell loses
+abbrev pub noLoss : Loss
+noLoss = record { oxidised = 0; burned = 0; kg = 0 }
 
 -- the greatest kg line of a year, and the greatest emission to date of a cell; proofs/Laws.antt proves that none is greater
 abbrev pub mostLine : ℕ
@@ -89,8 +89,8 @@ abbrev pub opened : ℕ → Entry
 opened plan = record { withdrawn = false; plan = plan; oxidised = 0; burned = 0 }
 
 -- after a loss: O and B with the year's mm added
-abbrev pub grown : Entry → Loss → Entry
-grown e s = record { withdrawn = e .withdrawn; plan = e .plan; oxidised = e .oxidised + s .oxidised; burned = e .burned + s .burned }
+abbrev pub afterLoss : Entry → Loss → Entry
+afterLoss e s = record { withdrawn = e .withdrawn; plan = e .plan; oxidised = e .oxidised + s .oxidised; burned = e .burned + s .burned }
 
 -- with another plan year
 abbrev pub planned : Entry → ℕ → Entry

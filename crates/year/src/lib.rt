@@ -1,8 +1,8 @@
 // A cell's year: what burns, what oxidises, and what both emit.
 ghost use mathlib.Core.Path.{_≡_};
 ghost use Prim.Native.Nat.{_+_, _-_, _^_, _<_, _≤_, min};
-ghost use Rattle.fields.specs.Right.{RowRight};
-ghost use Rattle.year.specs.Year.{unconverted, rests, burnedBy, oxidisedBy, emission, kgOf, mmOf, lossOf, none, opened, grown, planned, marked, mostLoss};
+ghost use Rattle.fields.specs.Valid.{RowValid};
+ghost use Rattle.year.specs.Year.{unconverted, inactive, burnedBy, oxidisedBy, emission, kgOf, mmOf, lossOf, noLoss, opened, afterLoss, planned, marked, mostLoss};
 ghost use Rattle.year.specs.Fit.{Fit};
 use fields::Cell;
 use fields::Head;
@@ -42,9 +42,9 @@ pub fn opened(plan: u32) -> Entry
 }
 
 // The entry after a loss.
-pub fn grown(e: Entry, s: Loss) -> Entry
+pub fn after_loss(e: Entry, s: Loss) -> Entry
     requires { ⌜ (e .oxidised + s .oxidised < 2 ^ 32) × (e .burned + s .burned < 2 ^ 32) ⌝ }
-    ensures { λ r. ⌜ r ≡ grown e s ⌝ }
+    ensures { λ r. ⌜ r ≡ afterLoss e s ⌝ }
 {
     Entry {
         withdrawn: e.withdrawn,
@@ -99,25 +99,25 @@ pub fn unconverted(plan: u32, year: u32) -> bool
 }
 
 // Whether a cell loses nothing in `year`.
-pub fn rests(h: Head, c: Cell, e: Entry, year: u32) -> bool
-    ensures { λ r. ⌜ r ≡ rests h c e year ⌝ }
+pub fn inactive(h: Head, c: Cell, e: Entry, year: u32) -> bool
+    ensures { λ r. ⌜ r ≡ inactive h c e year ⌝ }
 {
     e.withdrawn | (unconverted(e.plan, year) | (c.entered < h.thickness))
 }
 
 // What burns of `left` mm: the guard above the water stays.
-fn burned_by(guard: u32, d: u32, b: u32, left: u32) -> u32
-    ensures { λ r. ⌜ r ≡ burnedBy guard d b left ⌝ }
+fn burned_by(guard: u32, d: u32, b: u32, remaining: u32) -> u32
+    ensures { λ r. ⌜ r ≡ burnedBy guard d b remaining ⌝ }
 {
-    least(b, least(left, above(d, guard)))
+    least(b, least(remaining, above(d, guard)))
 }
 
 // What oxidises of what the fire leaves, down to the water.
-fn oxidised_by(d: u32, o: u32, left: u32, burned: u32) -> u32
-    requires { ⌜ (burned ≤ left) × (burned ≤ d) ⌝ }
-    ensures { λ r. ⌜ r ≡ oxidisedBy d o left burned ⌝ }
+fn oxidised_by(d: u32, o: u32, remaining: u32, burned: u32) -> u32
+    requires { ⌜ (burned ≤ remaining) × (burned ≤ d) ⌝ }
+    ensures { λ r. ⌜ r ≡ oxidisedBy d o remaining burned ⌝ }
 {
-    least(o, least(left - burned, d - burned))
+    least(o, least(remaining - burned, d - burned))
 }
 
 // The emission to date of so much oxidised and burned, in kg. The products are made in u64.
@@ -131,9 +131,9 @@ pub fn emission(h: Head, c: Cell, oxidised: u32, burned: u32) -> u32
     (k * (lost + methane) / 30000000) as u32
 }
 
-// What a cell that rests loses.
+// What an inactive cell loses.
 pub fn no_loss() -> Loss
-    ensures { λ s. ⌜ s ≡ none ⌝ }
+    ensures { λ s. ⌜ s ≡ noLoss ⌝ }
 {
     Loss {
         oxidised: 0,
@@ -142,21 +142,21 @@ pub fn no_loss() -> Loss
     }
 }
 
-// The mm that a cell that does not rest loses, by its row of the table: the fire comes first.
+// The mm that an active cell loses, by its row of the table: the fire comes first.
 pub fn mm_of(h: Head, c: Cell, r: Row, e: Entry) -> Depths
-    requires { ⌜ Fit h c (e .oxidised) (e .burned) × RowRight r ⌝ }
+    requires { ⌜ Fit h c (e .oxidised) (e .burned) × RowValid r ⌝ }
     ensures { λ m. ⌜ m ≡ mmOf h c r e ⌝ }
 {
-    let left = c.entered - (e.oxidised + e.burned);
+    let remaining = c.entered - (e.oxidised + e.burned);
     let d = 10 * r.drainage;
-    let burned = burned_by(h.guard, d, r.burning, left);
-    let oxidised = oxidised_by(d, r.oxidation, left, burned);
+    let burned = burned_by(h.guard, d, r.burning, remaining);
+    let oxidised = oxidised_by(d, r.oxidation, remaining, burned);
     Depths { oxidised, burned }
 }
 
 // What it loses in all, where its kg to date is `before`.
 pub fn loss_of(h: Head, c: Cell, r: Row, e: Entry, before: u32) -> Loss
-    requires { ⌜ Fit h c (e .oxidised) (e .burned) × RowRight r × (before ≡ kgOf h c e) ⌝ }
+    requires { ⌜ Fit h c (e .oxidised) (e .burned) × RowValid r × (before ≡ kgOf h c e) ⌝ }
     ensures { λ s. ⌜ s ≡ lossOf h c r e ⌝ }
 {
     let m = mm_of(h, c, r, e);

@@ -7,16 +7,16 @@ use native.Mathlib.Numerals.{add-one}
 use native.Mathlib.Omega.{arith}
 use Rattle.words.proofs.Blocks.{filled-same}
 use Rattle.listing.specs.Layout.{cells, horizon}
-use Rattle.year.specs.Year.{grown}
+use Rattle.year.specs.Year.{afterLoss}
 use Rattle.year.specs.declared.Entry.{Entry}
-use Rattle.book.specs.Current.{current, entry, heldAt, newBook, fitted, Says}
+use Rattle.book.specs.Current.{current, entry, heldAt, newBook, fitted, Holds}
 use Rattle.book.specs.Layout.{withYear, heldWords}
-use Rattle.book.proofs.Sound.{shaped, fitted-says}
-use Rattle.book.proofs.New.{new-again, new-says}
+use Rattle.book.proofs.Sound.{shaped, fitted-accepted}
+use Rattle.book.proofs.New.{new-again, new-holds}
 use Rattle.opening.specs.Opening.{openBook}
 use Rattle.closing.specs.Closing.{cellLoss, loss, closedWords, bookAfter}
 use Rattle.years.specs.Years.{entriesAfter, lossIn, closedFor, EveryYears}
-use Rattle.years.proofs.After.{after-right}
+use Rattle.years.proofs.After.{after-valid}
 
 module _ (l b : List ℕ) (fits : fitted l b .done ≡ true) where
   -- the book of year t
@@ -24,20 +24,20 @@ module _ (l b : List ℕ) (fits : fitted l b .done ≡ true) where
   held t = newBook l b t 0 (entriesAfter l t)
 
   module _ (t : ℕ) (in-time : t ≤ horizon l) where
-    held-says : Says l (held t) t 0 (entriesAfter l t)
-    held-says = new-says current shaped l b fits t 0 (entriesAfter l t) in-time (omega arith) (λ i lt. after-right (fitted-says current l b shaped fits .accepted) i lt t)
+    years-hold : Holds l (held t) t 0 (entriesAfter l t)
+    years-hold = new-holds current shaped l b fits t 0 (entriesAfter l t) in-time (omega arith) (λ i lt. after-valid (fitted-accepted current l b shaped fits .accepted) i lt t)
 
     held-loss : (i : ℕ) → i < cells l → loss l (held t) i ≡ lossIn l i t
-    held-loss i lt = ap₂ (λ (u : ℕ) (e : Entry). cellLoss l (u + 1) i e) (held-says .year-is) (held-says .entry-is i lt)
+    held-loss i lt = ap₂ (λ (u : ℕ) (e : Entry). cellLoss l (u + 1) i e) (years-hold .year-is) (years-hold .entry-is i lt)
 
     -- a year later
     held-next : bookAfter l (held t) ≡ held (suc t)
     unfolding bookAfter entriesAfter
     held-next =
-        rw (held-says .year-is, add-one)
+        rw (years-hold .year-is, add-one)
         (ap (λ (d : List ℕ). withYear d (suc t))
         (filled-same (current .entry) (held t) (current .head) (closedWords l (held t)) (heldAt (entriesAfter l (suc t))) (cells l)
-        (λ i lt. ap₂ (λ (e : Entry) (u : ℕ). heldWords (current .entry) (grown e (cellLoss l (u + 1) i e))) (held-says .entry-is i lt) (held-says .year-is)))
+        (λ i lt. ap₂ (λ (e : Entry) (u : ℕ). heldWords (current .entry) (afterLoss e (cellLoss l (u + 1) i e))) (years-hold .entry-is i lt) (years-hold .year-is)))
         ∙ new-again current shaped l b fits t 0 (entriesAfter l t) (suc t) (entriesAfter l (suc t)))
 
   held-closed : (t : ℕ) → t ≤ horizon l → closedFor l (openBook l b) t ≡ held t
@@ -48,4 +48,4 @@ module _ (l b : List ℕ) (fits : fitted l b .done ≡ true) where
 pub every-years : EveryYears
 every-years l b fits t le =
     let same = held-closed l b fits t le in
-    record { book-is = same; says = rw same (held-says l b fits t le); loss-is = λ i lt. rw same (held-loss l b fits t le i lt) }
+    record { book-is = same; holds = rw same (years-hold l b fits t le); loss-is = λ i lt. rw same (held-loss l b fits t le i lt) }

@@ -5,17 +5,17 @@ use mathlib.Core.Bool.{true}
 use mathlib.Core.List.{List}
 use Prim.Native.Nat.{ℕ, zero, suc, _+_, _≤_, _<_}
 use Rattle.listing.specs.Layout.{cells, horizon}
-use Rattle.year.specs.Year.{grown}
+use Rattle.year.specs.Year.{afterLoss}
 use Rattle.year.specs.declared.Entry.{Entry}
 use Rattle.year.specs.declared.Loss.{Loss}
-use Rattle.book.specs.Current.{newBook, fitted, Says}
+use Rattle.book.specs.Current.{newBook, fitted, Holds}
 use Rattle.opening.specs.Opening.{openEntry, openBook}
 use Rattle.closing.specs.Closing.{cellLoss, loss, bookAfter}
 
 -- the entries of the cells after t years: opened, then with each year's mm added
 unfoldable pub entriesAfter : List ℕ → ℕ → ℕ → Entry
 entriesAfter l zero i = openEntry l i
-entriesAfter l (suc t) i = grown (entriesAfter l t i) (cellLoss l (t + 1) i (entriesAfter l t i))
+entriesAfter l (suc t) i = afterLoss (entriesAfter l t i) (cellLoss l (t + 1) i (entriesAfter l t i))
 
 -- what cell i loses in the year t + 1
 abbrev pub lossIn : List ℕ → ℕ → ℕ → Loss
@@ -26,11 +26,11 @@ unfoldable pub closedFor : List ℕ → List ℕ → ℕ → List ℕ
 closedFor l b zero = b
 closedFor l b (suc t) = bookAfter l (closedFor l b t)
 
--- the opened book b after t closings: it is the book of year t with these entries, it is accepted and says so, and what its next closing
+-- the opened book b after t closings: it is the book of year t with these entries, it is accepted and holds them, and what its next closing
 -- works out for each cell is the cell's loss in the year t + 1
 pub record HeldYears (l b : List ℕ) (t : ℕ) : Type 0 where
   pub book-is : closedFor l (openBook l b) t ≡ newBook l b t 0 (entriesAfter l t)
-  pub says : Says l (closedFor l (openBook l b) t) t 0 (entriesAfter l t)
+  pub holds : Holds l (closedFor l (openBook l b) t) t 0 (entriesAfter l t)
   pub loss-is : (i : ℕ) → i < cells l → loss l (closedFor l (openBook l b) t) i ≡ lossIn l i t
 
 abbrev pub EveryYears : Type 0

@@ -12,7 +12,7 @@ pub struct Book<'a> {
 
 /// Number 6.
 #[inline(always)]
-pub fn room<'a>(listing: &Listing, book: &'a mut [u32]) -> Result<Book<'a>, Answer> {
+pub fn parts<'a>(listing: &Listing, book: &'a mut [u32]) -> Result<Book<'a>, Answer> {
     let length = book.len();
     let cells = listing.cells.len();
     let [year, issued, rest @ ..] = book else {
@@ -31,56 +31,56 @@ pub fn room<'a>(listing: &Listing, book: &'a mut [u32]) -> Result<Book<'a>, Answ
 /// Number 8, in one pass without a branch for each word.
 #[inline(always)]
 pub fn check(listing: &Listing, book: &Book) -> Result<(), Answer> {
-    let head = year_is_right(listing, *book.year) & issued_is_right(*book.issued);
+    let head = year_is_valid(listing, *book.year) & issued_is_valid(*book.issued);
     let pairs = listing.cells.iter().zip(&*book.entries);
-    let right = pairs.fold(head, |all, (&[peat, _], &[plan, oxidised, burned])| {
-        all & plan_is_right(listing, plan)
-            & oxidised_is_right(oxidised)
-            & burned_is_right(peat, oxidised, burned)
+    let valid = pairs.fold(head, |all, (&[peat, _], &[plan, oxidised, burned])| {
+        all & plan_is_valid(listing, plan)
+            & oxidised_is_valid(oxidised)
+            & burned_is_valid(peat, oxidised, burned)
     });
-    if !right {
+    if !valid {
         return Err(first_refusal(listing, book));
     }
     Ok(())
 }
 
-fn year_is_right(listing: &Listing, word: u32) -> bool {
+fn year_is_valid(listing: &Listing, word: u32) -> bool {
     (word >> 28 == 8) & (bits(word, 27, 0) <= listing.horizon)
 }
 
-fn issued_is_right(word: u32) -> bool {
+fn issued_is_valid(word: u32) -> bool {
     word >> 28 == 9
 }
 
-fn plan_is_right(listing: &Listing, word: u32) -> bool {
+fn plan_is_valid(listing: &Listing, word: u32) -> bool {
     (word >> 28 == 10) & (bits(word, 27, 9) == 0) & (bits(word, 7, 0) <= listing.horizon)
 }
 
-fn oxidised_is_right(word: u32) -> bool {
+fn oxidised_is_valid(word: u32) -> bool {
     word >> 28 == 11
 }
 
 /// A bad sum counts here.
-fn burned_is_right(peat: u32, oxidised: u32, burned: u32) -> bool {
+fn burned_is_valid(peat: u32, oxidised: u32, burned: u32) -> bool {
     (burned >> 28 == 12) & (bits(oxidised, 27, 0) + bits(burned, 27, 0) <= most_loss(peat))
 }
 
-/// The first wrong word of a book that has one.
+/// The first invalid word of a book that has one.
 #[cold]
 fn first_refusal(listing: &Listing, book: &Book) -> Answer {
-    if !year_is_right(listing, *book.year) {
+    if !year_is_valid(listing, *book.year) {
         return refusal(8, 0);
     }
-    if !issued_is_right(*book.issued) {
+    if !issued_is_valid(*book.issued) {
         return refusal(8, 1);
     }
     let pairs = listing.cells.iter().zip(&*book.entries);
     let words = pairs.flat_map(|(&[peat, _], &[plan, oxidised, burned])| {
         [
-            plan_is_right(listing, plan),
-            oxidised_is_right(oxidised),
-            burned_is_right(peat, oxidised, burned),
+            plan_is_valid(listing, plan),
+            oxidised_is_valid(oxidised),
+            burned_is_valid(peat, oxidised, burned),
         ]
     });
-    refusal(8, 2 + words.take_while(|&right| right).count())
+    refusal(8, 2 + words.take_while(|&valid| valid).count())
 }

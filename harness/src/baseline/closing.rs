@@ -5,7 +5,7 @@ use super::{bits, book, refusal, Outcome};
 
 pub fn close(listing: &[u32], book: &mut [u32], lines: &mut [u32]) -> Outcome {
     let listing = Listing::read(listing)?;
-    let book = book::room(&listing, book)?;
+    let book = book::parts(&listing, book)?;
     let length = lines.len();
     let Some(lines) = lines.as_chunks_mut().0.get_mut(..listing.cells.len()) else {
         return Err(refusal(7, length));

@@ -33,8 +33,8 @@ fn square(width: u32) -> u64 {
 /// The first list with a value that is too large.
 #[cold]
 fn first_refusal(lists: [&[u32]; 4]) -> Answer {
-    let right = |list: &&&[u32]| list.iter().all(|&value| value <= LARGEST);
-    refusal(20, lists.iter().take_while(right).count())
+    let valid = |list: &&&[u32]| list.iter().all(|&value| value <= LARGEST);
+    refusal(20, lists.iter().take_while(valid).count())
 }
 
 /// Q is `squares` and D `distance`.

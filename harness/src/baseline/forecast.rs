@@ -5,7 +5,7 @@ use super::{bits, book, refusal, Outcome};
 
 pub fn forecast(listing: &[u32], book: &mut [u32], output: &mut [u64]) -> Outcome {
     let listing = Listing::read(listing)?;
-    let book = book::room(&listing, book)?;
+    let book = book::parts(&listing, book)?;
     let length = output.len();
     let Some(output) = output.get_mut(..listing.horizon as usize) else {
         return Err(refusal(15, length));

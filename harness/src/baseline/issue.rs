@@ -5,7 +5,7 @@ use super::{bits, book, Outcome};
 
 pub fn issue(listing: &[u32], book: &mut [u32]) -> Outcome {
     let listing = Listing::read(listing)?;
-    let book = book::room(&listing, book)?;
+    let book = book::parts(&listing, book)?;
     book::check(&listing, &book)?;
     let peat = (kg_to_date(&listing, book.entries) / 1_000) as i64;
     let (all, stock) = terms_to_date(listing.terms, bits(*book.year, 27, 0));

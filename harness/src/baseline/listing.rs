@@ -1,7 +1,7 @@
 //! The listing: numbers 1 to 5, and its parts.
 use super::{bits, refusal, Answer};
 
-/// A listing with a right head and enough words.
+/// A listing with a valid head and enough words.
 pub struct Listing<'a> {
     pub strata: u32,
     pub horizon: u32,
@@ -22,10 +22,10 @@ impl<'a> Listing<'a> {
         let &[size, figures, ref rest @ ..] = words else {
             return Err(refusal(1, 0));
         };
-        if !size_is_right(size) {
+        if !size_is_valid(size) {
             return Err(refusal(2, 0));
         }
-        if !figures_are_right(figures) {
+        if !figures_are_valid(figures) {
             return Err(refusal(2, 1));
         }
         let (strata, horizon) = (bits(size, 15, 8), bits(size, 7, 0));
@@ -51,53 +51,53 @@ impl<'a> Listing<'a> {
     #[inline(always)]
     pub fn read(words: &'a [u32]) -> Result<Self, Answer> {
         let listing = Listing::parts(words)?;
-        // Every part is passed through to its end, without a branch for each word: most listings are right.
-        if !(listing.tables_right() & listing.cells_right() & listing.terms_right()) {
+        // Every part is passed through to its end, without a branch for each word: most listings are valid.
+        if !(listing.tables_valid() & listing.cells_valid() & listing.terms_valid()) {
             return Err(listing.first_refusal());
         }
         Ok(listing)
     }
 
-    fn tables_right(&self) -> bool {
-        let right = |all, &word: &u32| all & row_is_right(word);
-        self.tables.iter().fold(true, right)
+    fn tables_valid(&self) -> bool {
+        let valid = |all, &word: &u32| all & row_is_valid(word);
+        self.tables.iter().fold(true, valid)
     }
 
-    fn cells_right(&self) -> bool {
-        let right = |all, &[peat, ground]: &[u32; 2]| {
-            all & self.peat_is_right(peat) & ground_is_right(ground)
+    fn cells_valid(&self) -> bool {
+        let valid = |all, &[peat, ground]: &[u32; 2]| {
+            all & self.peat_is_valid(peat) & ground_is_valid(ground)
         };
-        self.cells.iter().fold(true, right)
+        self.cells.iter().fold(true, valid)
     }
 
     /// Numbers 4 and 5 in one pass.
-    fn terms_right(&self) -> bool {
-        let (mut right, mut before) = (true, 0);
+    fn terms_valid(&self) -> bool {
+        let (mut valid, mut before) = (true, 0);
         for &word in self.terms {
-            right = right & self.term_is_right(word) & (before < order(word));
+            valid = valid & self.term_is_valid(word) & (before < order(word));
             before = order(word);
         }
-        right
+        valid
     }
 
-    /// The first wrong word of a listing that has one: every 4 comes before any 5.
+    /// The first invalid word of a listing that has one: every 4 comes before any 5.
     #[cold]
     fn first_refusal(&self) -> Answer {
         let cells = 2 + self.tables.len();
         let terms = cells + 2 * self.cells.len();
-        if let Some(i) = self.tables.iter().position(|&word| !row_is_right(word)) {
+        if let Some(i) = self.tables.iter().position(|&word| !row_is_valid(word)) {
             return refusal(4, 2 + i);
         }
         for (i, &[peat, ground]) in self.cells.iter().enumerate() {
-            if !self.peat_is_right(peat) {
+            if !self.peat_is_valid(peat) {
                 return refusal(4, cells + 2 * i);
             }
-            if !ground_is_right(ground) {
+            if !ground_is_valid(ground) {
                 return refusal(4, cells + 2 * i + 1);
             }
         }
-        let wrong = |&word: &u32| !self.term_is_right(word);
-        if let Some(i) = self.terms.iter().position(wrong) {
+        let invalid = |&word: &u32| !self.term_is_valid(word);
+        if let Some(i) = self.terms.iter().position(invalid) {
             return refusal(4, terms + i);
         }
         let mut pairs = self.terms.windows(2);
@@ -105,14 +105,14 @@ impl<'a> Listing<'a> {
         refusal(5, terms + 1 + pairs.position(falls).unwrap_or_default())
     }
 
-    fn peat_is_right(&self, word: u32) -> bool {
+    fn peat_is_valid(&self, word: u32) -> bool {
         (word >> 28 == 4)
             & (bits(word, 27, 24) < self.strata)
             & (bits(word, 23, 16) <= self.horizon)
             & (bits(word, 15, 0) <= 20_000)
     }
 
-    fn term_is_right(&self, word: u32) -> bool {
+    fn term_is_valid(&self, word: u32) -> bool {
         let (term, year) = (bits(word, 27, 24), bits(word, 23, 17));
         (word >> 28 == 6)
             & ((term == 1) | (3 <= term) & (term <= 8))
@@ -121,14 +121,14 @@ impl<'a> Listing<'a> {
     }
 }
 
-fn size_is_right(word: u32) -> bool {
+fn size_is_valid(word: u32) -> bool {
     word >> 28 == 1
         && (1..=256).contains(&bits(word, 27, 16))
         && (1..=16).contains(&bits(word, 15, 8))
         && (1..=100).contains(&bits(word, 7, 0))
 }
 
-fn figures_are_right(word: u32) -> bool {
+fn figures_are_valid(word: u32) -> bool {
     word >> 28 == 2
         && bits(word, 27, 23) == 0
         && bits(word, 22, 16) <= 100
@@ -136,11 +136,11 @@ fn figures_are_right(word: u32) -> bool {
         && bits(word, 7, 0) <= 100
 }
 
-fn row_is_right(word: u32) -> bool {
+fn row_is_valid(word: u32) -> bool {
     word >> 28 == 3
 }
 
-fn ground_is_right(word: u32) -> bool {
+fn ground_is_valid(word: u32) -> bool {
     let (area, density) = (bits(word, 25, 12), bits(word, 11, 0));
     (word >> 28 == 5)
         & (bits(word, 27, 26) == 0)

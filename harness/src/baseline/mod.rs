@@ -1,5 +1,5 @@
 //! The benchmark's baseline: plain Rust, written for speed, of the calls that it times and no others, with the
-//! signatures of include/peat.h. Each check is a pass without a branch for each word, and the place of what is wrong is
+//! signatures of include/peat.h. Each check is a pass without a branch for each word, and the place of what is invalid is
 //! searched for only where something is.
 mod book;
 mod closing;

@@ -1,6 +1,6 @@
 //! Writes samples/: NAME.bin as peatrun reads it, NAME.txt in plain words, NAME.expected as it must print.
 use harness::sample::{self, NEGATIVE_TERM_TEXT, WORKED_TEXT};
-use harness::site::{Cell, Row, Says, Site, YearlyTerm};
+use harness::site::{Cell, Content, Row, Site, YearlyTerm};
 use harness::{generate, reference};
 use std::fs;
 
@@ -9,18 +9,18 @@ struct Sample {
     /// Comment lines of the companion.
     about: &'static str,
     bytes: Vec<u8>,
-    /// The companion's words, each with what it says.
+    /// The companion's words, each with what it contains.
     words: String,
     /// Document 01's own text, where it gives one; else the reference's.
     expected: Option<&'static str>,
 }
 
 impl Sample {
-    fn of(name: &'static str, about: &'static str, says: &[Says]) -> Sample {
-        let words: Vec<u32> = says.iter().map(Says::word).collect();
-        let lines = says
+    fn of(name: &'static str, about: &'static str, contents: &[Content]) -> Sample {
+        let words: Vec<u32> = contents.iter().map(Content::word).collect();
+        let lines = contents
             .iter()
-            .map(|says| format!("{:08X} # {}\n", says.word(), says.text()));
+            .map(|content| format!("{:08X} # {}\n", content.word(), content.text()));
         Sample {
             name,
             about,
@@ -159,16 +159,16 @@ fn accepted() -> Vec<Sample> {
     negative.terms.push(term(2, 5, -100));
     let worked = worked();
     vec![
-        Sample::of("worked", WORKED_ABOUT, &worked.says()).expecting(WORKED_TEXT),
-        Sample::of("worked-negative-term", NEGATIVE_ABOUT, &negative.says())
+        Sample::of("worked", WORKED_ABOUT, &worked.contents()).expecting(WORKED_TEXT),
+        Sample::of("worked-negative-term", NEGATIVE_ABOUT, &negative.contents())
             .expecting(NEGATIVE_TERM_TEXT),
-        Sample::of("three-cells", THREE_CELLS_ABOUT, &three_cells().says()),
-        Sample::of("unsorted", UNSORTED_ABOUT, &unsorted().says()),
-        Sample::of("largest", LARGEST_ABOUT, &generate::largest().says()),
+        Sample::of("three-cells", THREE_CELLS_ABOUT, &three_cells().contents()),
+        Sample::of("unsorted", UNSORTED_ABOUT, &unsorted().contents()),
+        Sample::of("largest", LARGEST_ABOUT, &generate::largest().contents()),
     ]
 }
 
-/// The worked listing with one thing wrong, for each number that a listing may be refused by.
+/// The worked listing with one thing invalid, for each number that a listing may be refused by.
 fn refused() -> Vec<Sample> {
     let worked = worked();
     let mut no_warming = worked.clone();
@@ -178,11 +178,11 @@ fn refused() -> Vec<Sample> {
     let mut falling = worked.clone();
     falling.terms = vec![term(1, 3, 40), term(2, 4, 25), term(2, 1, 10)];
     vec![
-        Sample::of("refused-1", REFUSED_1, &worked.says()[..1]),
-        Sample::of("refused-2", REFUSED_2, &no_warming.says()),
-        Sample::of("refused-3", REFUSED_3, &worked.says()[..5]),
-        Sample::of("refused-4", REFUSED_4, &late.says()),
-        Sample::of("refused-5", REFUSED_5, &falling.says()),
+        Sample::of("refused-1", REFUSED_1, &worked.contents()[..1]),
+        Sample::of("refused-2", REFUSED_2, &no_warming.contents()),
+        Sample::of("refused-3", REFUSED_3, &worked.contents()[..5]),
+        Sample::of("refused-4", REFUSED_4, &late.contents()),
+        Sample::of("refused-5", REFUSED_5, &falling.contents()),
     ]
 }
 

@@ -1,4 +1,4 @@
-//! "Book and calls", its first paragraph: where each figure of the book stands.
+//! "Book and calls", its first paragraph: where each figure of the book is.
 
 use super::listing::{entered_depth, horizon};
 use super::words::{at, bits, index, kind, number, word};
@@ -69,28 +69,28 @@ pub fn write_entry(book: &mut [u32], cell: i128, entry: &Entry) {
 }
 
 /// Word 0: kind 8, "current year 0 to horizon".
-fn word_0_is_right(listing: &[u32], book: &[u32]) -> bool {
+fn word_0_is_valid(listing: &[u32], book: &[u32]) -> bool {
     kind(at(book, 0)) == 8 && current_year(book) <= horizon(listing)
 }
 
 /// Word 1: kind 9; all tonnes are allowed.
-fn word_1_is_right(book: &[u32]) -> bool {
+fn word_1_is_valid(book: &[u32]) -> bool {
     kind(at(book, 1)) == 9
 }
 
 /// Kind 10, bits 27–9 zero, "plan year, 0 to horizon".
-fn plan_word_is_right(listing: &[u32], book: &[u32], cell: i128) -> bool {
+fn plan_word_is_valid(listing: &[u32], book: &[u32], cell: i128) -> bool {
     let word = at(book, cell_place(cell));
     kind(word) == 10 && bits(word, 27, 9) == 0 && entry(book, cell).plan_year <= horizon(listing)
 }
 
 /// Kind 11; O by itself has no range, for "a bad sum counts at kind 12".
-fn oxidised_word_is_right(book: &[u32], cell: i128) -> bool {
+fn oxidised_word_is_valid(book: &[u32], cell: i128) -> bool {
     kind(at(book, cell_place(cell) + 1)) == 11
 }
 
 /// Kind 12, and "O + B is at most the entered depth, and 0 for a cell below 300 mm".
-fn burned_word_is_right(listing: &[u32], book: &[u32], cell: i128) -> bool {
+fn burned_word_is_valid(listing: &[u32], book: &[u32], cell: i128) -> bool {
     let entry = entry(book, cell);
     let sum = entry.oxidised + entry.burned;
     kind(at(book, cell_place(cell) + 2)) == 12
@@ -99,19 +99,19 @@ fn burned_word_is_right(listing: &[u32], book: &[u32], cell: i128) -> bool {
 }
 
 /// Whether the word at a place is as described.
-pub fn word_is_right(listing: &[u32], book: &[u32], place: i128) -> bool {
+pub fn word_is_valid(listing: &[u32], book: &[u32], place: i128) -> bool {
     if place == 0 {
-        return word_0_is_right(listing, book);
+        return word_0_is_valid(listing, book);
     }
     if place == 1 {
-        return word_1_is_right(book);
+        return word_1_is_valid(book);
     }
     let cell = (place - HEAD_WORDS) / CELL_WORDS;
     if place == cell_place(cell) {
-        plan_word_is_right(listing, book, cell)
+        plan_word_is_valid(listing, book, cell)
     } else if place == cell_place(cell) + 1 {
-        oxidised_word_is_right(book, cell)
+        oxidised_word_is_valid(book, cell)
     } else {
-        burned_word_is_right(listing, book, cell)
+        burned_word_is_valid(listing, book, cell)
     }
 }

@@ -1,4 +1,4 @@
-//! "Lists of calls": the four claims of demand 3, read off what was handed out and off the
+//! "Lists of calls": the four claims of demand 3, read off what was returned and off the
 //! listing, never off the book.
 
 use super::balance::balance;
@@ -8,7 +8,7 @@ use super::words::index;
 use super::year::{d_of_year, emission, is_converted};
 use crate::Account;
 
-/// What a list of calls has handed out since the open it starts from.
+/// What a list of calls has returned since the open it starts from.
 pub struct History {
     listing: Vec<u32>,
     /// Accepted closings.
@@ -21,7 +21,7 @@ pub struct History {
     highest_balance: Option<i128>,
 }
 
-/// A cell's plan year, and the sums of the lines handed out for it.
+/// A cell's plan year, and the sums of the lines returned for it.
 struct OfCell {
     plan_year: i128,
     oxidised: i128,
@@ -36,7 +36,7 @@ pub struct Fire {
 }
 
 impl History {
-    /// "The list starts from the book as an accepted open wrote it." Nothing is handed out, and a
+    /// "The list starts from the book as an accepted open wrote it." Nothing is returned, and a
     /// cell's plan year is "the listing's".
     pub fn opened(listing: &[u32]) -> History {
         let nothing = |cell: i128| OfCell {
@@ -93,7 +93,7 @@ impl History {
     }
 
     /// "Tonnes issued are the answers of all issues." Answers "the balance at an issue": "with the
-    /// count of accepted closings before it as the current year and the kg lines handed out before
+    /// count of accepted closings before it as the current year and the kg lines returned before
     /// it as kg to date".
     pub fn issued(&mut self, tonnes: u32) -> i128 {
         let kilograms = self.of_cells.iter().map(|sums| sums.kilograms).sum();
@@ -109,7 +109,7 @@ impl History {
     }
 
     /// Depth: the statement after the list is accepted, and what it says remains, with all
-    /// oxidised and burned lines handed out for the cell, makes its entered depth.
+    /// oxidised and burned lines returned for the cell, makes its entered depth.
     pub fn depth_holds(&self, cell: usize, account: &Account) -> bool {
         let sums = &self.of_cells[cell];
         let entered = entered_depth(&self.listing, cell.try_into().unwrap());

@@ -1,4 +1,4 @@
-//! "Project listing": where each figure stands and what makes a word right.
+//! "Project listing": where each figure is and what makes a word valid.
 
 use super::words::{at, bits, index, kind};
 
@@ -29,7 +29,7 @@ pub fn horizon(listing: &[u32]) -> i128 {
 }
 
 /// Kind 1, "cells (1–256)", "strata (1–16)", "horizon in years (1–100)"; every bit is named.
-pub fn word_0_is_right(listing: &[u32]) -> bool {
+pub fn word_0_is_valid(listing: &[u32]) -> bool {
     kind(at(listing, 0)) == 1
         && (1..=MOST_CELLS).contains(&cells(listing))
         && (1..=16).contains(&strata(listing))
@@ -54,7 +54,7 @@ pub fn methane_emission_ratio(listing: &[u32]) -> i128 {
 }
 
 /// Kind 2, bits 27–23 zero, p "(0–100)", G "(1–100)", e "(0–100 ..)".
-pub fn word_1_is_right(listing: &[u32]) -> bool {
+pub fn word_1_is_valid(listing: &[u32]) -> bool {
     kind(at(listing, 1)) == 2
         && bits(at(listing, 1), 27, 23) == 0
         && (0..=100).contains(&buffer_percentage(listing))
@@ -62,7 +62,7 @@ pub fn word_1_is_right(listing: &[u32]) -> bool {
         && (0..=100).contains(&methane_emission_ratio(listing))
 }
 
-// Where the later words stand.
+// Where the later words are.
 
 /// The place of the first cell's first word, after strata × horizon words of the strata.
 fn first_cell_place(listing: &[u32]) -> i128 {
@@ -107,7 +107,7 @@ pub fn greatest_burning(word_of_age: u32) -> i128 {
 }
 
 /// Kind 3: "All values are allowed."
-fn word_of_age_is_right(word: u32) -> bool {
+fn word_of_age_is_valid(word: u32) -> bool {
     kind(word) == 3
 }
 
@@ -135,7 +135,7 @@ pub fn entered_depth(listing: &[u32], cell: i128) -> i128 {
 
 /// Kind 4, stratum "(below the count)", conversion year "(0 never, else 1 to horizon)", entered
 /// depth "(0–20,000)"; every bit is named.
-fn depth_word_is_right(listing: &[u32], cell: i128) -> bool {
+fn depth_word_is_valid(listing: &[u32], cell: i128) -> bool {
     kind(depth_word(listing, cell)) == 4
         && stratum(listing, cell) < strata(listing)
         && conversion_year(listing, cell) <= horizon(listing)
@@ -160,7 +160,7 @@ pub fn carbon_density(listing: &[u32], cell: i128) -> i128 {
 }
 
 /// Kind 5, bits 27–26 zero, area "(1–10,000)", carbon density "(1–2,400)".
-fn area_word_is_right(listing: &[u32], cell: i128) -> bool {
+fn area_word_is_valid(listing: &[u32], cell: i128) -> bool {
     kind(area_word(listing, cell)) == 5
         && bits(area_word(listing, cell), 27, 26) == 0
         && (1..=10_000).contains(&area(listing, cell))
@@ -195,7 +195,7 @@ pub fn tonnes(word: u32) -> i128 {
 }
 
 /// Kind 6, term "(1 or 3 to 8 ..)", year "(1 to horizon)"; every bit is named.
-fn term_word_is_right(listing: &[u32], word: u32) -> bool {
+fn term_word_is_valid(listing: &[u32], word: u32) -> bool {
     kind(word) == 6
         && (term(word) == 1 || (3..=8).contains(&term(word)))
         && (1..=horizon(listing)).contains(&year_of_term(word))
@@ -209,17 +209,17 @@ pub fn term_is_above(later: u32, earlier: u32) -> bool {
 // All words from word 2 on.
 
 /// Kind, zero bits and range of a word of the strata, of a cell, or of the terms.
-pub fn later_word_is_right(listing: &[u32], place: i128) -> bool {
+pub fn later_word_is_valid(listing: &[u32], place: i128) -> bool {
     if place < first_cell_place(listing) {
-        return word_of_age_is_right(at(listing, place));
+        return word_of_age_is_valid(at(listing, place));
     }
     if place >= fewest_words(listing) {
-        return term_word_is_right(listing, at(listing, place));
+        return term_word_is_valid(listing, at(listing, place));
     }
     let cell = (place - first_cell_place(listing)) / CELL_WORDS;
     if place == cell_place(listing, cell) {
-        depth_word_is_right(listing, cell)
+        depth_word_is_valid(listing, cell)
     } else {
-        area_word_is_right(listing, cell)
+        area_word_is_valid(listing, cell)
     }
 }

@@ -37,7 +37,7 @@ fn listing_printed(listing: &[u32]) -> String {
     for year in 1..=horizon(listing) {
         printed.push_str(&year_printed(listing, &mut book, year));
     }
-    printed.push_str(&format!("left {}\n", left(listing, &book)));
+    printed.push_str(&format!("left {}\n", remaining(listing, &book)));
     printed
 }
 
@@ -65,7 +65,7 @@ fn year_printed(listing: &[u32], book: &mut [u32], year: i128) -> String {
 }
 
 /// "mm remaining", over all cells, by their statements.
-fn left(listing: &[u32], book: &[u32]) -> i128 {
+fn remaining(listing: &[u32], book: &[u32]) -> i128 {
     let remaining = |cell: i128| i128::from(statement(listing, book, index(cell)).remaining);
     (0..cells(listing)).map(remaining).sum()
 }

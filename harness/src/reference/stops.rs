@@ -1,10 +1,10 @@
 //! "Where a call stops": a function for each number, answering the lowest place where it is met.
 
-use super::book::{book_words, current_year, entry, word_is_right};
+use super::book::{book_words, current_year, entry, word_is_valid};
 use super::lines::lines_words;
 use super::listing::{
-    cells, fewest_words, horizon, later_word_is_right, term_is_above, word_0_is_right,
-    word_1_is_right, HEAD_WORDS,
+    cells, fewest_words, horizon, later_word_is_valid, term_is_above, word_0_is_valid,
+    word_1_is_valid, HEAD_WORDS,
 };
 use super::readings::{is_finite, lies_in, millimetres};
 use super::words::{at, index, length};
@@ -54,9 +54,9 @@ fn head_missing(listing: &[u32]) -> Option<i128> {
 
 /// 2: "word 0 or 1: kind, zero bits or range", place: index.
 fn wrong_head_word(listing: &[u32]) -> Option<i128> {
-    if !word_0_is_right(listing) {
+    if !word_0_is_valid(listing) {
         Some(0)
-    } else if !word_1_is_right(listing) {
+    } else if !word_1_is_valid(listing) {
         Some(1)
     } else {
         None
@@ -70,7 +70,7 @@ fn listing_too_short(listing: &[u32]) -> Option<i128> {
 
 /// 4: "later word: kind, zero bits or range", place: index.
 fn wrong_later_word(listing: &[u32]) -> Option<i128> {
-    (HEAD_WORDS..length(listing)).find(|&place| !later_word_is_right(listing, place))
+    (HEAD_WORDS..length(listing)).find(|&place| !later_word_is_valid(listing, place))
 }
 
 /// 5: "term not above the one before", place: later index.
@@ -91,7 +91,7 @@ pub fn lines_too_short(listing: &[u32], lines: &[u32]) -> Option<i128> {
 
 /// 8: "word wrong as described above; a bad sum counts at kind 12", place: index.
 pub fn wrong_book_word(listing: &[u32], book: &[u32]) -> Option<i128> {
-    (0..book_words(cells(listing))).find(|&place| !word_is_right(listing, book, place))
+    (0..book_words(cells(listing))).find(|&place| !word_is_valid(listing, book, place))
 }
 
 /// 9: "close at the horizon", place 0.
@@ -168,8 +168,8 @@ pub fn missing(reading: Reading) -> Option<i128> {
 /// 19: "list lengths unequal or not 1–5", place 0.
 pub fn wrong_lengths(lists: [&[u32]; 4]) -> Option<i128> {
     let pools = length(lists[0]);
-    let right = (1..=5).contains(&pools) && lists.iter().all(|list| length(list) == pools);
-    (!right).then_some(0)
+    let valid = (1..=5).contains(&pools) && lists.iter().all(|list| length(list) == pools);
+    (!valid).then_some(0)
 }
 
 /// 20: "a value above 20,000", place: list, 0–3.

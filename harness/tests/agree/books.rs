@@ -20,7 +20,7 @@ pub fn any_book(seed: u64, met: &mut Met) {
     }
 }
 
-/// The forecast beside a closing of every year, which hands out the same kilograms and leaves the same book.
+/// The forecast beside a closing of every year, which returns the same kilograms and leaves the same book.
 pub fn forecasts(seed: u64, met: &mut Met) {
     let random = &mut Random(seed);
     for _ in 0..4_000 {

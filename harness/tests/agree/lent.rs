@@ -4,7 +4,7 @@ use harness::met::Met;
 use harness::site::{part, Site, BOOK_CELL_WORDS, BOOK_HEAD};
 use harness::{Account, Ledger, PROVED, REFERENCE};
 
-/// What the caller lends, with whatever stands in it.
+/// What the caller lends, with whatever is in it.
 #[derive(Clone, Debug, PartialEq)]
 pub struct Lent {
     pub listing: Vec<u32>,
@@ -13,7 +13,7 @@ pub struct Lent {
     pub output: Vec<u64>,
 }
 
-/// Slices for a site, with something in them and some room beyond what is needed.
+/// Slices for a site, with something in them and some elements beyond what is needed.
 pub fn lend(random: &mut Random, site: &Site) -> Lent {
     Lent {
         listing: site.words(),

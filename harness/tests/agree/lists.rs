@@ -6,8 +6,8 @@ use harness::reference::{History, GUARD};
 use harness::site::{Site, LINE_WORDS};
 use harness::{Account, PROVED};
 
-/// What a list has handed out, with what only the table asks: marks, plan years, mm lost, and the balances at its issues.
-struct Told<'a> {
+/// What a list has returned, with what only the table asks: marks, plan years, mm lost, and the balances at its issues.
+struct Tally<'a> {
     site: &'a Site,
     history: History,
     withdrawn: Vec<bool>,
@@ -16,9 +16,9 @@ struct Told<'a> {
     balances: Vec<i128>,
 }
 
-impl<'a> Told<'a> {
+impl<'a> Tally<'a> {
     fn opened(site: &'a Site, listing: &[u32]) -> Self {
-        Told {
+        Tally {
             site,
             history: History::opened(listing),
             withdrawn: vec![false; site.cells.len()],
@@ -91,14 +91,14 @@ impl<'a> Told<'a> {
     fn count_cell(&self, met: &mut Met, i: usize, burned: u32) {
         let (cell, plan) = (self.site.cells[i], self.plans[i]);
         let year = self.history.closings();
-        let rests = match (self.withdrawn[i], plan) {
+        let inactive = match (self.withdrawn[i], plan) {
             (true, _) => Some("withdrawn"),
             (_, 0) => Some("plan year 0"),
             _ if plan > year => Some("plan year ahead"),
             _ if cell.entered < 300 => Some("not peat"),
             _ => None,
         };
-        if let Some(row) = rests {
+        if let Some(row) = inactive {
             return met.count("cell in a closing", row);
         }
         let row = self.site.tables[cell.stratum as usize][(year - plan) as usize];
@@ -235,13 +235,13 @@ fn list(random: &mut Random, met: &mut Met) {
     let site = generate::any_site(random);
     let mut lent = lend(random, &site);
     open(met, &site, &mut lent);
-    let mut told = Told::opened(&site, &lent.listing);
+    let mut tally = Tally::opened(&site, &lent.listing);
     let length = random.between(0, 3 * site.horizon + 10);
     for _ in 0..length {
-        let call = generate::call(random, &site, told.history.closings());
+        let call = generate::call(random, &site, tally.history.closings());
         let answer = agree(met, call, &mut lent);
         if answer.number == 0 {
-            told.accepted(met, call, answer.entered, &lent.lines);
+            tally.accepted(met, call, answer.entered, &lent.lines);
         } else {
             met.count("refused in a list", &answer.number.to_string());
         }
@@ -252,7 +252,7 @@ fn list(random: &mut Random, met: &mut Met) {
     if length == 0 {
         met.count("list of calls", "empty");
     }
-    told.ended(met, |cell| {
+    tally.ended(met, |cell| {
         (PROVED.statement)(&lent.listing, &lent.book, cell)
     });
 }

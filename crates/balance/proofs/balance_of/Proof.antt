@@ -68,7 +68,7 @@ module _ (c : tie.After-with-peat2) where
   tonnes = call-reads w64 (c .with-peat2 .ok) (c .with-peat2 .ensures ∙ ap (λ (z : ℤ). pos (start given .args .peat) +ℤ z) (buffered given))
 
 withheld-requires : tie.Need-withheld-requires
-withheld-requires c κs = (omega (arith, percent (given c), start (given c) .pre .0 .head-right .buffer), omega (arith, ap natAbs (tonnes c), small (start (given c)) 5))
+withheld-requires c κs = (omega (arith, percent (given c), start (given c) .pre .0 .head-valid .buffer), omega (arith, ap natAbs (tonnes c), small (start (given c)) 5))
 
 -- N, and what is withheld
 module _ (c : tie.After-withheld) where
@@ -90,7 +90,7 @@ module _ (c : tie.After-withheld) where
   is = c .withheld .ensures ∙ ap₂ withheld (percent (given (c .before))) (tonnes (c .before))
 
   fits : natAbs n + held < 2 ^ 63
-  fits = omega (arith, small s 8, small s 5, held-size (share s) (date s 5) (s .pre .0 .head-right .buffer))
+  fits = omega (arith, small s 8, small s 5, held-size (share s) (date s 5) (s .pre .0 .head-valid .buffer))
 
   reads : toZ w64 (c .withheld .result) ≡ pos held
   reads = toZ-pos w64 (omega (arith, is, fits)) ∙ ap pos is

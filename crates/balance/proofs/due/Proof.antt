@@ -17,17 +17,17 @@ module _ (s : tie.Start) where
   abbrev z : ℤ
   z = s .args .balance
 
-  room : natAbs z + s .args .issued < 2 ^ 63
-  room = omega (arith, s .pre .0, s .pre .2)
+  capacity : natAbs z + s .args .issued < 2 ^ 63
+  capacity = omega (arith, s .pre .0, s .pre .2)
 
   balance : toZ w64 (ofZ w64 z) ≡ z
   balance = toZ-ofZ (s .fits .balance)
 
   issued : toZ w64 (s .args .issued) ≡ pos (s .args .issued)
-  issued = toZ-pos w64 (omega (arith, room))
+  issued = toZ-pos w64 (omega (arith, capacity))
 
 sub-at-least-0 : tie.Need-sub-at-least-0
-sub-at-least-0 c = sub-fits w64 (z c) (balance c) (pos (c .args .issued)) (issued c) (room c)
+sub-at-least-0 c = sub-fits w64 (z c) (balance c) (pos (c .args .issued)) (issued c) (capacity c)
 
 module _ (c : tie.After-at-least-0) where
   abbrev s : tie.Start
@@ -35,7 +35,7 @@ module _ (c : tie.After-at-least-0) where
 
   is : c .at-least-0 .result ≡ due (z s) (s .args .issued)
   unfolding due
-  is = c .at-least-0 .ensures ∙ ap atLeast0 (sub-reads w64 (z s) (balance s) (pos (s .args .issued)) (issued s) (room s))
+  is = c .at-least-0 .ensures ∙ ap atLeast0 (sub-reads w64 (z s) (balance s) (pos (s .args .issued)) (issued s) (capacity s))
 
 cast-result : tie.Need-cast-result
 unfolding due

@@ -1,4 +1,4 @@
--- `balance::kg_to_date` meets its contract: in turn i the sum is that of the first i cells. Assumes nothing.
+-- `balance::kg_to_date` meets its contract: in iteration i the sum is that of the first i cells. Assumes nothing.
 use mathlib.Core.Path.{_≡_, ap, _∙_}
 use mathlib.Core.List.{List}
 use Prim.Native.Nat.{ℕ, _+_, _-_, _^_, _≤_, _<_}
@@ -10,8 +10,8 @@ use Rattle.words.proofs.Sums.{sum-none}
 use Rattle.fields.specs.declared.Head.{Head}
 use Rattle.listing.specs.Layout.{cells}
 use Rattle.book.specs.Current.{current, kgTo}
-use Rattle.book.proofs.Sound.{sound-room}
-use Rattle.balance.proofs.Bounds.{turn-words, turn}
+use Rattle.book.proofs.Sound.{sound-cell}
+use Rattle.balance.proofs.Bounds.{kg-words, kg-next}
 use Rattle.balance.proofs.kg_to_date.Statement.{statement}
 use Rattle.balance.proofs.kg_to_date.Tie as tie
 
@@ -44,24 +44,24 @@ cell-requires : tie.Need-cell-requires Inv-loop μ-loop
 cell-requires c κs = (start (c .before) .pre .fitted .accepted, c .before .before .before .head .ensures, omega (arith, below c))
 
 words-of-requires : tie.Need-words-of-requires Inv-loop μ-loop
-words-of-requires c κs = let a = c .before .before in sound-room current (l a) (b a) (start a .pre) (a .loop .i) (below (c .before))
+words-of-requires c κs = let a = c .before .before in sound-cell current (l a) (b a) (start a .pre) (a .loop .i) (below (c .before))
 
 kg-of-requires : tie.Need-kg-of-requires Inv-loop μ-loop
 kg-of-requires c κs =
     let a = c .before .before .before in
-    turn-words (l a) (b a) (start a .pre) (a .before .before .head .ensures) (c .before .cell .ensures) (c .words-of .ensures) (below (c .before .before))
+    kg-words (l a) (b a) (start a .pre) (a .before .before .head .ensures) (c .before .cell .ensures) (c .words-of .ensures) (below (c .before .before))
 
-turns : (c : tie.After-kg-of Inv-loop μ-loop) →
+iterations : (c : tie.After-kg-of Inv-loop μ-loop) →
     let a = c .before .before .before .before in
     (a .loop .kg + c .kg-of .result ≡ sumBelow (kgTo (l a) (b a)) (a .loop .i + 1)) × (a .loop .kg + c .kg-of .result < 2 ^ 64)
-turns c =
+iterations c =
     let a = c .before .before .before .before in
-    turn (l a) (b a) (start a .pre) (a .before .before .head .ensures) (c .before .before .cell .ensures) (c .before .words-of .ensures) (below (c .before .before .before))
+    kg-next (l a) (b a) (start a .pre) (a .before .before .head .ensures) (c .before .before .cell .ensures) (c .before .words-of .ensures) (below (c .before .before .before))
     (a .loop .inv .1)
     (c .kg-of .ensures)
 
 loop-again : tie.Need-loop-again Inv-loop μ-loop
-loop-again c = (omega arith, turns c .0)
+loop-again c = (omega arith, iterations c .0)
 
 returns : tie.Need-returns Inv-loop μ-loop
 returns c =
@@ -82,7 +82,7 @@ kg-to-date-spec =
     words-of-requires
     kg-of-requires
     (λ c. search needs)
-    (λ c. omega (arith, turns c .1))
+    (λ c. omega (arith, iterations c .1))
     (λ c. search needs)
     (λ c. search needs)
     loop-again

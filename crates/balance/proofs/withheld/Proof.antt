@@ -15,12 +15,12 @@ module _ (c : tie.After-at-least-0) where
   tonnes : c .at-least-0 .result ≡ atLeast0 (c .before .args .s)
   tonnes = c .at-least-0 .ensures ∙ ap atLeast0 (toZ-ofZ (c .before .fits .s))
 
-  room : c .before .args .p * c .at-least-0 .result + 99 < 2 ^ 64
-  room = omega (arith, tonnes, atLeast0-size (c .before .args .s), mul-le-mul-right (c .at-least-0 .result) (c .before .pre .0))
+  capacity : c .before .args .p * c .at-least-0 .result + 99 < 2 ^ 64
+  capacity = omega (arith, tonnes, atLeast0-size (c .before .args .s), mul-le-mul-right (c .at-least-0 .result) (c .before .pre .0))
 
 returns : tie.Need-returns
 unfolding withheld
 returns c = ap (λ (n : ℕ). (c .before .args .p * n + 99) / 100) (tonnes c)
 
 pub withheld-spec : {M : Type 1} → statement M
-withheld-spec = tie.close (tie.spec (λ c κs. search needs) (λ c. omega (arith, room c)) (λ c. omega (arith, room c)) returns)
+withheld-spec = tie.close (tie.spec (λ c κs. search needs) (λ c. omega (arith, capacity c)) (λ c. omega (arith, capacity c)) returns)

@@ -1,4 +1,4 @@
--- `book::admit` meets its contract: the listing's check and the room for the book come first. Assumes nothing.
+-- `book::admit` meets its contract: the listing's check and the book's length come first. Assumes nothing.
 use borrow.Author.Needs.{needs}
 use Rattle.words.proofs.Answers.{answers}
 use Rattle.book.specs.Check.{admitted}

@@ -7,27 +7,27 @@ use Rattle.book.proofs.check_book.Statement.{statement}
 use Rattle.book.proofs.check_book.Tie as tie
 
 -- the search ends where the listing's book does
-asked : tie.Need-first-wrong-requires
+asked : tie.Need-first-invalid-word-requires
 asked c κs =
     let head = c .before .before in
     (head .before .before .before .pre, head .head .ensures, rw (c .entry-at .ensures, head .head .ensures))
 
--- by name, so that another place or another test is refused where it stands
-wrong : tie.Need-returns
+-- by name, so that another place or another test is refused in its own place
+invalid : tie.Need-returns
 unfolding bookChecked
-wrong c =
+invalid c =
     let search = c .before .before in
     let e = search .before .before .before .head .ensures in
     let size = search .before .entry-at .ensures in
-    found _ _ _ _ _ _ (rw (size, e) at (search .first-wrong .ensures)) (rw (size, e) at (c .before .if1 .taken)) (c .refuse .ensures)
+    found _ _ _ _ _ _ (rw (size, e) at (search .first-invalid-word .ensures)) (rw (size, e) at (c .before .if1 .taken)) (c .refuse .ensures)
 
-right : tie.Need-returns-2
+valid : tie.Need-returns-2
 unfolding bookChecked
-right c =
+valid c =
     let search = c .before in
     let e = search .before .before .before .head .ensures in
     let size = search .before .entry-at .ensures in
-    found-none _ _ _ _ _ _ (rw (size, e) at (search .first-wrong .ensures)) (rw (size, e) at (c .if1 .left)) refl
+    found-none _ _ _ _ _ _ (rw (size, e) at (search .first-invalid-word .ensures)) (rw (size, e) at (c .if1 .left)) refl
 
 pub check-book-spec : {M : Type 1} → statement M
-check-book-spec = tie.close (tie.spec (λ c κs. search needs) (λ c. search needs) (λ c κs. search needs) asked (λ c κs. search needs) wrong right)
+check-book-spec = tie.close (tie.spec (λ c κs. search needs) (λ c. search needs) (λ c κs. search needs) asked (λ c κs. search needs) invalid valid)

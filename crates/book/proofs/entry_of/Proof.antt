@@ -9,4 +9,14 @@ unfolding entryOf
 returns c = rw (c .bits4 .ensures, c .before .before .bits3 .ensures, c .before .before .before .before .bits2 .ensures, c .before .before .before .before .before .before .bits .ensures)
 
 pub entry-of-spec : {M : Type 1} → statement M
-entry-of-spec = tie.close (tie.spec (λ c. search needs) (λ c κs. search needs) (λ c. search needs) (λ c κs. search needs) (λ c. search needs) (λ c κs. search needs) (λ c. search needs) (λ c κs. search needs) returns)
+entry-of-spec =
+    tie.close
+    (tie.spec
+    (λ c. search needs)
+    (λ c κs. search needs)
+    (λ c. search needs)
+    (λ c κs. search needs)
+    (λ c. search needs)
+    (λ c κs. search needs)
+    (λ c. search needs)
+    (λ c κs. search needs) returns)

@@ -6,4 +6,10 @@ use Rattle.book.proofs.is_plan_word.Tie as tie
 
 pub is-plan-word-spec : {M : Type 1} → statement M
 unfolding isPlanWord
-is-plan-word-spec = tie.close (tie.spec (λ c κs. search needs) (λ c κs. search needs) (λ c κs. search needs) (λ c. rw (c .before .before .is-kind .ensures, c .before .bits .ensures, c .between .ensures)))
+is-plan-word-spec =
+    tie.close
+    (tie.spec
+    (λ c κs. search needs)
+    (λ c κs. search needs)
+    (λ c κs. search needs)
+    (λ c. rw (c .before .before .is-kind .ensures, c .before .bits .ensures, c .between .ensures)))

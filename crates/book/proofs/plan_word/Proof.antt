@@ -1,4 +1,4 @@
--- `book::plan_word` meets its contract: the mark stands above the plan year's 8 bits. Assumes nothing.
+-- `book::plan_word` meets its contract: the mark is above the plan year's 8 bits. Assumes nothing.
 use mathlib.Core.Path.{_≡_}
 use mathlib.Core.Logic.{⊎-elim}
 use mathlib.Core.Bool.{cond}
@@ -18,4 +18,8 @@ module _ (c : tie.Joined1) where
   joined = join-law (c .if1 .mark) (c .before .args .plan) 1 8 (omega arith) (omega (arith, mark .0)) (c .before .pre)
 
 pub plan-word-spec : {M : Type 1} → statement M
-plan-word-spec = tie.close (tie.spec (λ c κs. (omega arith, rw (joined (c .before)) (omega (arith, mark (c .before))))) (λ c. rw (c .word .ensures, joined (c .before .before), mark (c .before .before) .1)))
+plan-word-spec =
+    tie.close
+    (tie.spec
+    (λ c κs. (omega arith, rw (joined (c .before)) (omega (arith, mark (c .before)))))
+    (λ c. rw (c .word .ensures, joined (c .before .before), mark (c .before .before) .1)))

@@ -13,7 +13,7 @@ use Rattle.book.proofs.put_entry.Tie as tie
 second : tie.Need-slice-write-words-2
 second c =
     let start = c .before .before .before in
-    let room : 1 < length (now (start .args .words)) = omega arith in
+    let capacity : 1 < length (now (start .args .words)) = omega arith in
     search needs
 
 returns : tie.Need-returns

@@ -17,7 +17,7 @@ abbrev μ-loop : tie.MeasureT-loop
 again : tie.Need-loop-again Inv-loop μ-loop
 unfolding stored
 again c =
-    let put = c .before .before .put-number in
+    let put = c .before .before .put-payload in
     let loop = c .before .before .before .before .before .loop in
     let k : loop .k ≡ suc (loop .k - 1) = omega arith in
     (omega arith, rw (put .ensures, length-set) (loop .inv .1), rw (put .ensures) (rw k at (loop .inv .2)))

@@ -6,4 +6,12 @@ use Rattle.book.proofs.words_of.Tie as tie
 
 pub words-of-spec : {M : Type 1} → statement M
 words-of-spec =
-    tie.close (tie.spec (λ c κs. search needs) (λ c. search needs) (λ c. search needs) (λ c. search needs) (λ c. search needs) (λ c. search needs) (λ c. rw (c .before .before .entry-at .ensures, add-sub-cancel-left)))
+    tie.close
+    (tie.spec
+    (λ c κs. search needs)
+    (λ c. search needs)
+    (λ c. search needs)
+    (λ c. search needs)
+    (λ c. search needs)
+    (λ c. search needs)
+    (λ c. rw (c .before .before .entry-at .ensures, add-sub-cancel-left)))

@@ -1,8 +1,8 @@
 -- `capi::peat_open` meets its contract: the answer is sent as it is, and the book is as the call leaves it. Assumes nothing.
 use borrow.Author.Needs.{needs}
 use mathlib.Core.Path.{ap, _∙_}
-use Rattle.words.proofs.Left.{left-answer, left-book}
-use Rattle.capi.specs.Sent.{sent}
+use Rattle.words.proofs.Effect.{effect-answer, effect-book}
+use Rattle.capi.specs.Exported.{exported}
 use Rattle.capi.proofs.peat_open.Statement.{statement}
 use Rattle.capi.proofs.peat_open.Tie as tie
 
@@ -13,4 +13,4 @@ peat-open-spec =
     (λ c κs. search needs)
     (λ c κs. search needs)
     (λ c. search needs)
-    (λ c. let e = c .before .before .before .«open» .ensures in (c .of-outcome .ensures ∙ ap sent (left-answer e), left-book e)))
+    (λ c. let e = c .before .before .before .«open» .ensures in (c .of-outcome .ensures ∙ ap exported (effect-answer e), effect-book e)))

@@ -1,7 +1,7 @@
 -- `closing::active_loss` meets its contract: the row is that of the cell's own stratum and age. Assumes nothing.
 use native.Mathlib.Omega.{arith}
 use borrow.Author.Needs.{needs}
-use Rattle.closing.proofs.Closable.{losing-fit, losing-row, active-age, active-loss}
+use Rattle.closing.proofs.Closable.{cell-year-fit, losing-row, active-age, active-loss}
 use Rattle.closing.proofs.active_loss.Statement.{statement}
 use Rattle.closing.proofs.active_loss.Tie as tie
 
@@ -15,7 +15,7 @@ row-requires c κs =
 loss-of-requires : tie.Need-loss-of-requires
 loss-of-requires c κs =
     let pre = c .before .before .before .pre in
-    (losing-fit (pre .0), losing-row (pre .0) _ _ _ (c .row .ensures), pre .2)
+    (cell-year-fit (pre .0), losing-row (pre .0) _ _ _ (c .row .ensures), pre .2)
 
 returns : tie.Need-returns
 returns c =

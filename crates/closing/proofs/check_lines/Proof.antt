@@ -2,7 +2,7 @@
 use mathlib.Core.Path.{refl}
 use borrow.Author.Needs.{needs}
 use borrow.Author.Tests.{lt-leb, le-leb}
-use Rattle.words.proofs.Answers.{need-bad, need-next}
+use Rattle.words.proofs.Answers.{need-failed, need-next}
 use Rattle.closing.specs.Closing.{linesChecked}
 use Rattle.closing.proofs.check_lines.Statement.{statement}
 use Rattle.closing.proofs.check_lines.Tie as tie
@@ -11,7 +11,7 @@ short : tie.Need-returns
 unfolding linesChecked
 short c =
     let head = c .before .before .before in
-    need-bad _ _ (head .before .before .args .room) _ _ (lt-leb _ _ (rw (head .head .ensures) at (c .before .if1 .taken))) (c .refuse .ensures)
+    need-failed _ _ (head .before .before .args .capacity) _ _ (lt-leb _ _ (rw (head .head .ensures) at (c .before .if1 .taken))) (c .refuse .ensures)
 
 enough : tie.Need-returns-2
 unfolding linesChecked

@@ -1,4 +1,4 @@
--- `closing::close_cells` meets its contract: turn i is lent cell i's words as they were at the start, and leaves the closed ones. Assumes nothing.
+-- `closing::close_cells` meets its contract: iteration i is lent cell i's words as they were at the start, and leaves the closed ones. Assumes nothing.
 use borrow.Author.Needs.{needs}
 use mathlib.Core.Path.{_≡_}
 use Prim.Native.Nat.{_-_}
@@ -6,13 +6,13 @@ use native.Mathlib.Omega.{arith}
 use lib.ListN.{length-take, length-drop}
 use Rattle.listing.specs.Layout.{cells}
 use Rattle.book.proofs.Sound.{shaped}
-use Rattle.closing.proofs.Closable.{timely-cells}
-use Rattle.closing.proofs.Turn.{Turned, turned-none, turn-losing, turn-fits, turned-next, turned-all}
+use Rattle.closing.proofs.Closable.{next-year-cells}
+use Rattle.closing.proofs.Loop.{Progress, progress-none, iteration-cell-year, iteration-fits, progress-next, progress-all}
 use Rattle.closing.proofs.close_cells.Statement.{statement}
 use Rattle.closing.proofs.close_cells.Tie as tie
 
 abbrev Inv-loop : tie.InvT-loop
-Inv-loop listing h book₀ lines₀ year count i₀ book lines i = (count ≡ cells listing) × Turned listing book₀ lines₀ i book lines
+Inv-loop listing h book₀ lines₀ year count i₀ book lines i = (count ≡ cells listing) × Progress listing book₀ lines₀ i book lines
 
 abbrev μ-loop : tie.MeasureT-loop
 μ-loop listing h book₀ lines₀ year count i₀ book lines i = count - i
@@ -20,9 +20,9 @@ abbrev μ-loop : tie.MeasureT-loop
 loop-holds : tie.Need-loop-holds Inv-loop μ-loop
 loop-holds c =
     let pre = c .before .before .before .before .pre in
-    (timely-cells (pre .0), turned-none _ (pre .1))
+    (next-year-cells (pre .0), progress-none _ (pre .1))
 
--- the turn of cell i, and where its words begin
+-- the iteration of cell i, and where its words begin
 module _ (c : tie.After-entry-at Inv-loop μ-loop) where
   abbrev loop : tie.At-loop Inv-loop μ-loop
   loop = c .before .before
@@ -35,7 +35,7 @@ close-cell-requires c κs =
     let at = c .before .before in
     let t = loop at .loop in
     let pre = start at .pre in
-    turn-losing _ (pre .1) (pre .0) (t .i) (omega arith) (t .inv .1) _ (at .entry-at .ensures)
+    iteration-cell-year _ (pre .1) (pre .0) (t .i) (omega arith) (t .inv .1) _ (at .entry-at .ensures)
 
 put-lines-requires : tie.Need-put-lines-requires Inv-loop μ-loop
 put-lines-requires c κs =
@@ -43,7 +43,7 @@ put-lines-requires c κs =
     let at = closed .before .before .before in
     let t = loop at .loop in
     let pre = start at .pre in
-    let fits = turn-fits _ (pre .1) (pre .0) (t .i) (omega arith) (t .inv .1) _ (at .entry-at .ensures) (closed .close-cell .ensures .0) in
+    let fits = iteration-fits _ (pre .1) (pre .0) (t .i) (omega arith) (t .inv .1) _ (at .entry-at .ensures) (closed .close-cell .ensures .0) in
     (simp (length-take, length-drop) (omega arith), fits .0, fits .1, fits .2)
 
 loop-again : tie.Need-loop-again Inv-loop μ-loop
@@ -52,11 +52,11 @@ loop-again c =
     let at = closed .before .before .before in
     let t = loop at .loop in
     let pre = start at .pre in
-    let told = closed .close-cell .ensures in
-    (t .inv .0, turned-next _ (pre .1) (pre .0) (t .i) (omega arith) (t .inv .1) _ (at .entry-at .ensures) (told .0) (told .1) (c .before .before .put-lines .ensures))
+    let answered = closed .close-cell .ensures in
+    (t .inv .0, progress-next _ (pre .1) (pre .0) (t .i) (omega arith) (t .inv .1) _ (at .entry-at .ensures) (answered .0) (answered .1) (c .before .before .put-lines .ensures))
 
 returns : tie.Need-returns Inv-loop μ-loop
-returns c = turned-all (c .before .loop .inv .1) (omega arith)
+returns c = progress-all (c .before .loop .inv .1) (omega arith)
 
 pub close-cells-spec : {M : Type 1} → statement M
 close-cells-spec =

@@ -5,14 +5,14 @@ use borrow.Author.Needs.{needs}
 use native.Mathlib.Omega.{arith}
 use Rattle.book.specs.Layout.{withYear}
 use Rattle.closing.specs.Closing.{bookAfter}
-use Rattle.closing.proofs.Turn.{timely-next}
+use Rattle.closing.proofs.Loop.{next-year-is}
 use Rattle.closing.proofs.close_year.Statement.{statement}
 use Rattle.closing.proofs.close_year.Tie as tie
 
 close-cells-requires : tie.Need-close-cells-requires
 close-cells-requires c κs =
     let k = c .before .before .before .before .before .before .before .before .pre in
-    (timely-next (k .sound) (k .ahead) (c .before .before .before .before .head .ensures) (omega arith), k)
+    (next-year-is (k .sound) (k .ahead) (c .before .before .before .before .head .ensures) (omega arith), k)
 
 returns : tie.Need-returns
 unfolding bookAfter

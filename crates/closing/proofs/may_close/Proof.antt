@@ -1,4 +1,4 @@
--- `closing::may_close` meets its contract: 7 to 9 come after the listing's tests and the room of the book. Assumes nothing.
+-- `closing::may_close` meets its contract: 7 to 9 come after the listing's tests and the book's length. Assumes nothing.
 use borrow.Author.Needs.{needs}
 use Rattle.words.proofs.Answers.{answers}
 use Rattle.book.proofs.Sound.{shaped, fitted-done}

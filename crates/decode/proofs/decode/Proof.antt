@@ -1,4 +1,4 @@
--- `decode::decode` meets its contract: turn i stores word i. Assumes nothing.
+-- `decode::decode` meets its contract: iteration i stores word i. Assumes nothing.
 use mathlib.Core.Path.{refl, ap}
 use mathlib.Core.List.{[], _∷_}
 use Prim.Native.Nat.{ℕ, _-_, _*_}

@@ -1,4 +1,4 @@
--- `decode::word_at` meets its contract: it takes the four bytes in turn. Assumes nothing.
+-- `decode::word_at` meets its contract: it takes the four bytes in their order. Assumes nothing.
 use borrow.Author.Needs.{needs}
 use Rattle.decode.specs.Decode.{wordAt}
 use Rattle.decode.proofs.word_at.Statement.{statement}

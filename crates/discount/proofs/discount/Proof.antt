@@ -4,7 +4,7 @@ use Prim.Native.Nat.{_+_}
 use native.Mathlib.Omega.{arith}
 use borrow.Author.Tests.{not-true, not-false}
 use Rattle.words.specs.Answers.{accepted}
-use Rattle.words.proofs.Answers.{said-yes, need-next, answers}
+use Rattle.words.proofs.Answers.{flag-true, need-next, answers}
 use Rattle.sums.specs.Sums.{sum}
 use Rattle.discount.specs.Discount.{distance, factor, discount, Bounded}
 use Rattle.discount.proofs.Bounds.{distance-le}
@@ -35,7 +35,7 @@ discount-spec =
     (λ c κs. search answers)
     (λ c κs. search answers)
     (λ c. search answers depth 8 fits 9000)
-    (λ c κs. said-yes _ _ (c .before .lengths-right .ensures) (c .if1 .left))
+    (λ c κs. flag-true _ _ (c .before .lengths-valid .ensures) (c .if1 .left))
     (λ c κs. c .before .before .stock-sums .ensures .refused-gives (not-true _ (c .if2 .taken)))
     (λ c. search answers)
     (λ c κs. valid c .0)
@@ -52,9 +52,9 @@ discount-spec =
     let e = d .before .before .before in
     let k = valid e in
     let l = e .before .before .before in
-    need-next _ _ _ _ _ (said-yes _ _ (l .before .lengths-right .ensures) (l .if1 .left))
-    (need-next _ _ _ _ _ (k .0 .low)
-    (need-next _ _ _ _ _ (k .1 .low)
-    (need-next _ _ _ _ _ (k .2 .low)
-    (need-next _ _ _ _ _ (k .3 .low)
+    need-next _ _ _ _ _ (flag-true _ _ (l .before .lengths-valid .ensures) (l .if1 .left))
+    (need-next _ _ _ _ _ (k .0 .values-at-most)
+    (need-next _ _ _ _ _ (k .1 .values-at-most)
+    (need-next _ _ _ _ _ (k .2 .values-at-most)
+    (need-next _ _ _ _ _ (k .3 .values-at-most)
     (ap accepted (c .factor .ensures ∙ ap₂ factor (ap₂ _+_ (d .before .before .squared .ensures .0) (d .before .squared2 .ensures .0)) (apart d)))))))))

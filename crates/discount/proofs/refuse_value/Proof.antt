@@ -1,5 +1,5 @@
 -- `discount::refuse_value` meets its contract: each return's answer follows from the tests before it. Assumes nothing.
-use Rattle.words.proofs.Answers.{said-yes, answers}
+use Rattle.words.proofs.Answers.{flag-true, answers}
 use Rattle.discount.specs.Discount.{discount}
 use Rattle.discount.proofs.refuse_value.Statement.{statement}
 use Rattle.discount.proofs.refuse_value.Tie as tie
@@ -24,7 +24,7 @@ refuse-value-spec =
     let e₂ = e₃ .before .before in
     let e₁ = e₂ .before .before in
     let last = e₁ .before .before .before .before .before .before .pre .last
-    (said-yes _ _ (e₁ .before .all-at-most .ensures) (e₁ .if1 .left))
-    (said-yes _ _ (e₂ .before .all-at-most2 .ensures) (e₂ .if2 .left))
-    (said-yes _ _ (e₃ .before .all-at-most3 .ensures) (e₃ .if3 .left)) in
+    (flag-true _ _ (e₁ .before .all-at-most .ensures) (e₁ .if1 .left))
+    (flag-true _ _ (e₂ .before .all-at-most2 .ensures) (e₂ .if2 .left))
+    (flag-true _ _ (e₃ .before .all-at-most3 .ensures) (e₃ .if3 .left)) in
     search answers depth 8 fits 9000))

@@ -5,7 +5,7 @@ use native.Mathlib.Nat.{mul-le-mul}
 use mathlib.Core.Logic.{⊎-elim}
 use Prim.Native.Nat.{_+_, _<_, _≤_}
 use Rattle.discount.specs.Discount.{square, rootLimit}
-use Rattle.discount.proofs.Newton.{Between, some-root, step-above, step-falls, step-between}
+use Rattle.discount.proofs.Newton.{Between, root-positive, step-above, step-falls, step-between}
 use Rattle.discount.proofs.root.Statement.{statement}
 use Rattle.discount.proofs.root.Tie as tie
 
@@ -19,14 +19,14 @@ abbrev μ-loop : tie.MeasureT-loop
 from : (c : tie.Joined1 Inv-loop μ-loop) → Between 2496 rootLimit (c .if1 .middle)
 from c = ⊎-elim (λ t. record { low = omega (arith, t .1); high = omega (arith, t .1) }) (λ t. record { low = omega (arith, t .1); high = omega (arith, t .1) }) (c .if1 .came)
 
-first : (c : tie.After-nearer Inv-loop μ-loop) → Between 1248 rootLimit (c .nearer .result)
-first c = step-between _ _ _ 1248 rootLimit (omega arith) (from (c .before)) (c .nearer .ensures)
+first : (c : tie.After-newton-step Inv-loop μ-loop) → Between 1248 rootLimit (c .newton-step .result)
+first c = step-between _ _ _ 1248 rootLimit (omega arith) (from (c .before)) (c .newton-step .ensures)
 
-second : (c : tie.After-nearer2 Inv-loop μ-loop) → Between 624 rootLimit (c .nearer2 .result)
-second c = step-between _ _ _ 624 rootLimit (omega arith) (first (c .before)) (c .nearer2 .ensures)
+second : (c : tie.After-newton-step2 Inv-loop μ-loop) → Between 624 rootLimit (c .newton-step2 .result)
+second c = step-between _ _ _ 624 rootLimit (omega arith) (first (c .before)) (c .newton-step2 .ensures)
 
-third : (c : tie.After-nearer3 Inv-loop μ-loop) → Between 312 rootLimit (c .nearer3 .result)
-third c = step-between _ _ _ 312 rootLimit (omega arith) (second (c .before)) (c .nearer3 .ensures)
+third : (c : tie.After-newton-step3 Inv-loop μ-loop) → Between 312 rootLimit (c .newton-step3 .result)
+third c = step-between _ _ _ 312 rootLimit (omega arith) (second (c .before)) (c .newton-step3 .ensures)
 
 pub root-spec : {M : Type 1} → statement M
 root-spec =
@@ -37,14 +37,14 @@ root-spec =
     (λ c κs. let b = from c in omega (arith, b .low, b .high))
     (λ c κs. let b = first c in omega (arith, b .low, b .high))
     (λ c κs. let b = second c in omega (arith, b .low, b .high))
-    (λ c. (step-above _ _ _ (let b = second (c .before) .low in omega arith) (c .nearer3 .ensures), third c .high))
+    (λ c. (step-above _ _ _ (let b = second (c .before) .low in omega arith) (c .newton-step3 .ensures), third c .high))
     (λ c. search needs)
     (λ c. search needs)
     (λ c. let h = c .loop .inv .1 in omega (arith, mul-le-mul h h))
-    (λ c κs. let inv = c .before .loop .inv in omega (arith, some-root _ _ (c .loop-test .taken)))
-    (λ c. step-falls _ _ _ (c .before .loop-test .taken) (c .nearer4 .ensures))
+    (λ c κs. let inv = c .before .loop .inv in omega (arith, root-positive _ _ (c .loop-test .taken)))
+    (λ c. step-falls _ _ _ (c .before .loop-test .taken) (c .newton-step4 .ensures))
     (λ c.
     let test = c .before .loop-test .taken in
     let inv = c .before .before .loop .inv .1 in
-    (step-above _ _ _ (some-root _ _ test) (c .nearer4 .ensures), omega (arith, step-falls _ _ _ test (c .nearer4 .ensures))))
+    (step-above _ _ _ (root-positive _ _ test) (c .newton-step4 .ensures), omega (arith, step-falls _ _ _ test (c .newton-step4 .ensures))))
     (λ c. search needs))

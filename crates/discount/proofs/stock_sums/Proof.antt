@@ -4,7 +4,7 @@ use native.Mathlib.Omega.{arith}
 use lib.ListN.{length, getD}
 use mir.Val.{Fits}
 use mir.Syntax.{w64}
-use Rattle.words.proofs.Answers.{said-yes}
+use Rattle.words.proofs.Answers.{flag-true}
 use Rattle.discount.proofs.Bounds.{lengths}
 use Rattle.discount.proofs.Pools.{Passed, passed-fits, pools}
 use Rattle.discount.proofs.stock_sums.Statement.{statement}
@@ -25,7 +25,7 @@ fits c =
     let v = c .before in
     let t = v .before .before .before .before .before in
     let l = t .before in
-    passed-fits (l .loop .inv) (l .before .before .before .before .before .pre) (t .loop-test .taken) (said-yes _ _ (v .pool-valid .ensures) (c .if1 .left))
+    passed-fits (l .loop .inv) (l .before .before .before .before .before .pre) (t .loop-test .taken) (flag-true _ _ (v .pool-valid .ensures) (c .if1 .left))
 
 pub stock-sums-spec : {M : Type 1} → statement M
 stock-sums-spec =

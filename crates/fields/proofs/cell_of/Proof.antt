@@ -6,4 +6,12 @@ use Rattle.fields.proofs.cell_of.Tie as tie
 
 pub cell-of-spec : {M : Type 1} → statement M
 unfolding cellOf
-cell-of-spec = tie.close (tie.spec (λ c κs. search needs) (λ c κs. search needs) (λ c κs. search needs) (λ c κs. search needs) (λ c κs. search needs) (λ c. rw (c .before .before .before .before .bits .ensures, c .before .before .before .bits2 .ensures, c .before .before .bits3 .ensures, c .before .bits4 .ensures, c .bits5 .ensures)))
+cell-of-spec =
+    tie.close
+    (tie.spec
+    (λ c κs. search needs)
+    (λ c κs. search needs)
+    (λ c κs. search needs)
+    (λ c κs. search needs)
+    (λ c κs. search needs)
+    (λ c. rw (c .before .before .before .before .bits .ensures, c .before .before .before .bits2 .ensures, c .before .before .bits3 .ensures, c .before .bits4 .ensures, c .bits5 .ensures)))

@@ -2,7 +2,7 @@
 use mathlib.Core.Path.{ap₂, _∙_}
 use lib.Dec.{ltb}
 use borrow.Author.Needs.{needs}
-use Rattle.fields.proofs.Right.{above-order}
+use Rattle.fields.proofs.Valid.{above-order}
 use Rattle.fields.proofs.is_above.Statement.{statement}
 use Rattle.fields.proofs.is_above.Tie as tie
 

@@ -6,4 +6,11 @@ use Rattle.fields.proofs.is_area_word.Tie as tie
 
 pub is-area-word-spec : {M : Type 1} → statement M
 unfolding isAreaWord
-is-area-word-spec = tie.close (tie.spec (λ c κs. search needs) (λ c κs. search needs) (λ c κs. search needs) (λ c κs. search needs) (λ c. rw (c .before .before .before .is-kind .ensures, c .before .before .bits .ensures, c .before .between .ensures, c .between2 .ensures)))
+is-area-word-spec =
+    tie.close
+    (tie.spec
+    (λ c κs. search needs)
+    (λ c κs. search needs)
+    (λ c κs. search needs)
+    (λ c κs. search needs)
+    (λ c. rw (c .before .before .before .is-kind .ensures, c .before .before .bits .ensures, c .before .between .ensures, c .between2 .ensures)))

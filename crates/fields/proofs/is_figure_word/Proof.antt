@@ -6,4 +6,12 @@ use Rattle.fields.proofs.is_figure_word.Tie as tie
 
 pub is-figure-word-spec : {M : Type 1} → statement M
 unfolding isFigureWord
-is-figure-word-spec = tie.close (tie.spec (λ c κs. search needs) (λ c κs. search needs) (λ c κs. search needs) (λ c κs. search needs) (λ c κs. search needs) (λ c. rw (c .before .before .before .before .is-kind .ensures, c .before .before .before .bits .ensures, c .before .before .between .ensures, c .before .between2 .ensures, c .between3 .ensures)))
+is-figure-word-spec =
+    tie.close
+    (tie.spec
+    (λ c κs. search needs)
+    (λ c κs. search needs)
+    (λ c κs. search needs)
+    (λ c κs. search needs)
+    (λ c κs. search needs)
+    (λ c. rw (c .before .before .before .before .is-kind .ensures, c .before .before .before .bits .ensures, c .before .before .between .ensures, c .before .between2 .ensures, c .between3 .ensures)))

@@ -6,4 +6,11 @@ use Rattle.fields.proofs.is_size_word.Tie as tie
 
 pub is-size-word-spec : {M : Type 1} → statement M
 unfolding isSizeWord
-is-size-word-spec = tie.close (tie.spec (λ c κs. search needs) (λ c κs. search needs) (λ c κs. search needs) (λ c κs. search needs) (λ c. rw (c .before .before .before .is-kind .ensures, c .before .before .between .ensures, c .before .between2 .ensures, c .between3 .ensures)))
+is-size-word-spec =
+    tie.close
+    (tie.spec
+    (λ c κs. search needs)
+    (λ c κs. search needs)
+    (λ c κs. search needs)
+    (λ c κs. search needs)
+    (λ c. rw (c .before .before .before .is-kind .ensures, c .before .before .between .ensures, c .before .between2 .ensures, c .between3 .ensures)))

@@ -10,4 +10,8 @@ use Rattle.fields.proofs.table_fault.Statement.{statement}
 use Rattle.fields.proofs.table_fault.Tie as tie
 
 pub table-fault-spec : {M : Type 1} → statement M
-table-fault-spec = tie.close (tie.spec (λ c κs. search needs) (λ c. ap (λ (v : ℕ). isKind 0 (bitXor (c .before .args .w) v)) (c .word .ensures) ∙ differing-kind 3 (c .before .args .w) (omega arith) (search needs)))
+table-fault-spec =
+    tie.close
+    (tie.spec
+    (λ c κs. search needs)
+    (λ c. ap (λ (v : ℕ). isKind 0 (bitXor (c .before .args .w) v)) (c .word .ensures) ∙ differing-kind 3 (c .before .args .w) (omega arith) (search needs)))

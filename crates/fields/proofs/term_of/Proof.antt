@@ -10,4 +10,5 @@ pub term-of-spec : {M : Type 1} → statement M
 unfolding yearlyTerm
 term-of-spec =
     tie.close
-    (tie.spec (λ c κs. search needs) (λ c κs. search needs) (λ c κs. search needs) (λ c. rw (c .before .before .bits .ensures, c .before .bits2 .ensures, call-reads w32 (c .signed-bits .ok) (c .signed-bits .ensures))))
+    (tie.spec (λ c κs. search needs) (λ c κs. search needs) (λ c κs. search needs)
+    (λ c. rw (c .before .before .bits .ensures, c .before .bits2 .ensures, call-reads w32 (c .signed-bits .ok) (c .signed-bits .ensures))))

@@ -2,14 +2,14 @@
 use mathlib.Core.Path.{refl}
 use borrow.Author.Needs.{needs}
 use borrow.Author.Tests.{lt-leb, le-leb}
-use Rattle.words.proofs.Answers.{need-bad, need-next}
+use Rattle.words.proofs.Answers.{need-failed, need-next}
 use Rattle.forecast.specs.Forecast.{outputChecked}
 use Rattle.forecast.proofs.check_output.Statement.{statement}
 use Rattle.forecast.proofs.check_output.Tie as tie
 
 short : tie.Need-returns
 unfolding outputChecked
-short c = need-bad _ _ _ _ _ (lt-leb _ _ (rw (c .before .before .before .head .ensures) at (c .before .if1 .taken))) (c .refuse .ensures)
+short c = need-failed _ _ _ _ _ (lt-leb _ _ (rw (c .before .before .before .head .ensures) at (c .before .if1 .taken))) (c .refuse .ensures)
 
 long : tie.Need-returns-2
 unfolding outputChecked

@@ -1,4 +1,4 @@
--- `forecast::clear` meets its contract: turn i writes number i. Assumes nothing.
+-- `forecast::clear` meets its contract: iteration i writes number i. Assumes nothing.
 use mathlib.Core.Path.{refl}
 use mathlib.Core.List.{[], _∷_}
 use Prim.Native.Nat.{_-_}

@@ -7,7 +7,7 @@ use Rattle.fields.specs.declared.Head.{Head}
 use Rattle.listing.specs.Layout.{horizon}
 use Rattle.book.specs.Held.{newBook}
 use Rattle.forecast.specs.Running.{ranCells}
-use Rattle.forecast.proofs.Turn.{clear-ready, clear-all}
+use Rattle.forecast.proofs.Loop.{clear-ready, clear-all}
 use Rattle.forecast.proofs.run_years.Statement.{statement}
 use Rattle.forecast.proofs.run_years.Tie as tie
 
@@ -31,7 +31,7 @@ put-year-requires c κs =
     let ran = c .before .before .before .before .before in
     let h = ran .before .before .before .before .before .before .before .before in
     let fits = h .before .before .before .before .pre .fitted in
-    omega (arith, fits .room)
+    omega (arith, fits .capacity)
 
 returns : tie.Need-returns
 unfolding newBook ranCells

@@ -5,7 +5,7 @@ use native.Mathlib.Omega.{arith}
 use denote.Ref.{now}
 use borrow.Author.Needs.{needs}
 use borrow.Author.Tests.{le-ltb, lt-ltb}
-use Rattle.words.proofs.Answers.{need-bad, need-next}
+use Rattle.words.proofs.Answers.{need-failed, need-next}
 use Rattle.fields.specs.declared.Head.{Head}
 use Rattle.listing.specs.Layout.{cells}
 use Rattle.ledger.specs.Calls.{cellChecked}
@@ -26,7 +26,7 @@ refused c =
     let read = c .before .before in
     let s = start read in
     let past : cells (now (s .args .listing)) ≤ s .args .cell = omega (arith, count read, c .before .if1 .taken) in
-    need-bad _ _ _ _ _ (le-ltb _ _ past) (c .refuse .ensures)
+    need-failed _ _ _ _ _ (le-ltb _ _ past) (c .refuse .ensures)
 
 passed : tie.Need-returns-2
 unfolding cellChecked

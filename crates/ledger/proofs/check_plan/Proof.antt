@@ -5,7 +5,7 @@ use Prim.Native.Nat.{ℕ}
 use lib.Dec.{eqb, ltb, leb}
 use denote.Ref.{now}
 use borrow.Author.Needs.{needs}
-use Rattle.words.proofs.Answers.{need-bad, need-next, said-no, said-yes}
+use Rattle.words.proofs.Answers.{need-failed, need-next, flag-false, flag-true}
 use Rattle.fields.specs.declared.Head.{Head}
 use Rattle.year.specs.Year.{unconverted}
 use Rattle.year.specs.declared.Entry.{Entry}
@@ -35,21 +35,21 @@ test13 c = let u = c .before .before in ap₂ (test u) (u .before .before .year 
 
 converted : tie.Need-returns
 unfolding planChecked
-converted c = need-bad _ _ _ _ _ (said-no _ _ (test12 (c .before .before)) (c .before .if1 .taken)) (c .refuse .ensures)
+converted c = need-failed _ _ _ _ _ (flag-false _ _ (test12 (c .before .before)) (c .before .if1 .taken)) (c .refuse .ensures)
 
 passed : tie.Need-returns-3
 unfolding planChecked
 passed c =
     let head = c .before in
-    need-next _ _ _ _ _ (said-yes _ _ (test12 (head .before .before)) (head .before .if1 .left))
-    (need-next _ _ _ _ _ (said-yes _ _ (test13 head) (c .if2 .left)) refl)
+    need-next _ _ _ _ _ (flag-true _ _ (test12 (head .before .before)) (head .before .if1 .left))
+    (need-next _ _ _ _ _ (flag-true _ _ (test13 head) (c .if2 .left)) refl)
 
 behind : tie.Need-returns-2
 unfolding planChecked
 behind c =
     let head = c .before .before in
-    need-next _ _ _ _ _ (said-yes _ _ (test12 (head .before .before)) (head .before .if1 .left))
-    (need-bad _ _ _ _ _ (said-no _ _ (test13 head) (c .before .if2 .taken)) (c .refuse2 .ensures))
+    need-next _ _ _ _ _ (flag-true _ _ (test12 (head .before .before)) (head .before .if1 .left))
+    (need-failed _ _ _ _ _ (flag-false _ _ (test13 head) (c .before .if2 .taken)) (c .refuse2 .ensures))
 
 pub check-plan-spec : {M : Type 1} → statement M
 check-plan-spec =

@@ -9,9 +9,9 @@ use Rattle.book.specs.Layout.{issuedWords}
 use Rattle.book.proofs.Sound.{shaped, sound-done}
 use Rattle.balance.specs.Balance.{tonnesDue}
 use Rattle.balance.proofs.Bounds.{issued-fits}
-use Rattle.ledger.specs.Calls.{issueAnswer, issuing}
+use Rattle.ledger.specs.Calls.{issueAnswer, issueEffect}
 use Rattle.words.specs.Answers.{accepted}
-use Rattle.words.proofs.Left.{settles, leaves-same, passed-next, passed-next-written}
+use Rattle.words.proofs.Effect.{commits, effect-same, passed-next, passed-next-written}
 use Rattle.ledger.proofs.issue.Statement.{statement}
 use Rattle.ledger.proofs.issue.Tie as tie
 
@@ -31,25 +31,25 @@ sum c = ap₂ _+_ (c .issued .ensures) (c .before .before .tonnes-due .ensures)
 
 small : (c : tie.After-issued) → c .issued .result + c .before .before .tonnes-due .result < 2 ^ (28 * issuedWords current)
 small c =
-    let told = c .before .before .before .before in
-    let s = start told in
-    rw (sum c) (issued-fits (now (s .args .listing)) (now (s .args .book)) (sound told))
+    let matched = c .before .before .before .before in
+    let s = start matched in
+    rw (sum c) (issued-fits (now (s .args .listing)) (now (s .args .book)) (sound matched))
 
 done : tie.Need-returns
-unfolding issuing issueAnswer
+unfolding issueEffect issueAnswer
 done c =
     let read = c .before .before .before .before in
-    let told = read .before .before .before .before in
-    let s = start told in
-    let answered = told .before .before .admit .ensures in
-    let passed = told .enum-told .given .1 in
-    leaves-same _ _ _ _ _ _ (passed-next _ _ answered passed _ _ (ap accepted (read .before .before .tonnes-due .ensures)))
+    let matched = read .before .before .before .before in
+    let s = start matched in
+    let answered = matched .before .before .admit .ensures in
+    let passed = matched .enum-told .given .1 in
+    effect-same _ _ _ _ _ _ (passed-next _ _ answered passed _ _ (ap accepted (read .before .before .tonnes-due .ensures)))
     (passed-next-written _ _ answered passed _ refl _ _ _ (c .before .before .put-issued .ensures ∙ ap (withIssued (now (s .args .book))) (sum read)))
     refl
 
 refused : tie.Need-returns-2
-unfolding issuing issueAnswer
-refused c = search settles
+unfolding issueEffect issueAnswer
+refused c = search commits
 
 pub issue-spec : {M : Type 1} → statement M
 issue-spec =
@@ -58,10 +58,10 @@ issue-spec =
     (λ c κs. search needs)
     (λ c. search needs)
     (λ c κs. sound (c .before))
-    (λ c κs. (shaped, omega (arith, sound (c .before .before .before) .fitted .room)))
+    (λ c κs. (shaped, omega (arith, sound (c .before .before .before) .fitted .capacity)))
     (λ c. search needs)
     (λ c. omega (arith, small (c .before)))
-    (λ c κs. (shaped, omega (arith, sound (c .before .before .before .before .before) .fitted .room), small (c .before)))
+    (λ c κs. (shaped, omega (arith, sound (c .before .before .before .before .before) .fitted .capacity), small (c .before)))
     (λ c. search needs)
     (λ c. search needs)
     done

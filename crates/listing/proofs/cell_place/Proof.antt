@@ -4,16 +4,17 @@ use Prim.Native.Nat.{_+_, _*_, _<_}
 use native.Mathlib.Omega.{arith}
 use borrow.Author.Needs.{needs}
 use denote.Ref.{now}
-use Rattle.listing.specs.Layout.{starts, cellWords, cellAt}
+use Rattle.listing.specs.Layout.{offsets, cellWords, cellAt}
 use Rattle.listing.proofs.Accepted.{accepted-sizes, cell-by}
 use Rattle.listing.proofs.cell_place.Statement.{statement}
 use Rattle.listing.proofs.cell_place.Tie as tie
 
-here : (c : tie.After-starts-of) →
-    (c .starts-of .result .cells + cellWords * c .before .before .args .i ≡ cellAt (now (c .before .before .args .listing)) (c .before .before .args .i)) × (cellAt (now (c .before .before .args .listing)) (c .before .before .args .i) + 1 < starts (now (c .before .before .args .listing)) .terms)
+here : (c : tie.After-offsets-of) →
+    (c .offsets-of .result .cells + cellWords * c .before .before .args .i ≡ cellAt (now (c .before .before .args .listing)) (c .before .before .args .i))
+    × (cellAt (now (c .before .before .args .listing)) (c .before .before .args .i) + 1 < offsets (now (c .before .before .args .listing)) .terms)
 here c =
     let pre = c .before .before .pre in
-    cell-by _ _ _ (pre .1) (c .starts-of .ensures) (pre .0) _ (pre .2)
+    cell-by _ _ _ (pre .1) (c .offsets-of .ensures) (pre .0) _ (pre .2)
 
 pub cell-place-spec : {M : Type 1} → statement M
 cell-place-spec =

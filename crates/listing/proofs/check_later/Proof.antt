@@ -5,18 +5,18 @@ use denote.Ref.{now}
 use borrow.Author.Needs.{needs}
 use borrow.Author.Tests.{lt-leb}
 use Rattle.words.specs.Refusals.{listingShort}
-use Rattle.words.proofs.Answers.{need-bad, answers}
+use Rattle.words.proofs.Answers.{need-failed, answers}
 use Rattle.listing.specs.Check.{laterChecked}
 use Rattle.listing.proofs.check_later.Statement.{statement}
 use Rattle.listing.proofs.check_later.Tie as tie
 
--- by name, so that another place or another test is refused where it stands
+-- by name, so that another place or another test is refused in its own place
 short : tie.Need-returns
 unfolding laterChecked
 short c =
     let start = c .before .before .before .before in
     let long = length (now (start .args .listing)) in
-    need-bad _ listingShort long _ _ (lt-leb (start .args .s .terms) long (omega (arith, c .before .if1 .taken))) (c .refuse .ensures)
+    need-failed _ listingShort long _ _ (lt-leb (start .args .s .terms) long (omega (arith, c .before .if1 .taken))) (c .refuse .ensures)
 
 pub check-later-spec : {M : Type 1} → statement M
 unfolding laterChecked

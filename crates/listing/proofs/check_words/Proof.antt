@@ -5,14 +5,14 @@ use native.Mathlib.Omega.{arith}
 use lib.ListN.{length}
 use denote.Ref.{now}
 use borrow.Author.Needs.{needs}
-use Rattle.words.specs.Answers.{Answer, accepted, every}
+use Rattle.words.specs.Answers.{Answer, accepted, needAll}
 use Rattle.words.specs.Refusals.{laterWord, termNotAbove}
 use Rattle.words.proofs.Answers.{found, found-none}
-use Rattle.listing.specs.Check.{termRight, aboveRight, wordsChecked}
+use Rattle.listing.specs.Check.{termValid, termAbove, wordsChecked}
 use Rattle.listing.proofs.check_words.Statement.{statement}
 use Rattle.listing.proofs.check_words.Tie as tie
 
--- each return by name, so that another place or another test is refused where it stands
+-- each return by name, so that another place or another test is refused in its own place
 in-tables : tie.Need-returns
 unfolding wordsChecked
 in-tables c = found _ _ _ _ _ _ (c .before .before .before .first-table .ensures) (omega (arith, c .before .if1 .taken)) (c .refuse .ensures)
@@ -33,7 +33,7 @@ module _ (e : tie.Else2) where
   rest =
       let l = now (start .args .listing) in
       let s = start .args .s in
-      every laterWord (termRight l (start .args .h .horizon)) (s .terms) (length l) (every termNotAbove (aboveRight l) (s .terms + 1) (length l) (accepted 0))
+      needAll laterWord (termValid l (start .args .h .horizon)) (s .terms) (length l) (needAll termNotAbove (termAbove l) (s .terms + 1) (length l) (accepted 0))
 
   past : {v : Answer} → v ≡ rest → v ≡ wordsChecked (now (start .args .listing)) (start .args .h) (start .args .s)
   unfolding wordsChecked
@@ -44,8 +44,8 @@ module _ (e : tie.Else2) where
 
 by-pass : tie.Need-returns-3
 by-pass c =
-    let right = c .before .terms-clean .ensures (c .if3 .taken) in
-    past (c .before .before) (found-none _ _ _ _ _ _ (right .0) (omega arith) (found-none _ _ _ _ _ _ (right .1) (omega arith) refl))
+    let valid = c .before .terms-valid .ensures (c .if3 .taken) in
+    past (c .before .before) (found-none _ _ _ _ _ _ (valid .0) (omega arith) (found-none _ _ _ _ _ _ (valid .1) (omega arith) refl))
 
 wrong-term : tie.Need-returns-4
 wrong-term c =

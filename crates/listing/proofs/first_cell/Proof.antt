@@ -1,12 +1,12 @@
--- `listing::first_cell` meets its contract: a pass finds all right, or else the search has come to `at`. Assumes nothing.
+-- `listing::first_cell` meets its contract: a pass finds all valid, or else the search has come to `at`. Assumes nothing.
 use Prim.Native.Nat.{_-_, _≤_}
-use Rattle.listing.specs.Check.{cellRight}
+use Rattle.listing.specs.Check.{cellValid}
 use Rattle.words.proofs.Steps.{Passed, steps}
 use Rattle.listing.proofs.first_cell.Statement.{statement}
 use Rattle.listing.proofs.first_cell.Tie as tie
 
 abbrev Inv-loop : tie.InvT-loop
-Inv-loop listing strata horizon start end at₀ at = (start ≤ at) × (at ≤ end) × Passed (cellRight listing strata horizon start) start end at
+Inv-loop listing strata horizon start end at₀ at = (start ≤ at) × (at ≤ end) × Passed (cellValid listing strata horizon start) start end at
 
 abbrev μ-loop : tie.MeasureT-loop
 μ-loop listing strata horizon start end at₀ at = end - at
@@ -18,7 +18,7 @@ first-cell-spec =
     Inv-loop
     μ-loop
     (λ c κs. search steps)
-    (λ c. c .before .cells-clean .ensures (c .if1 .taken))
+    (λ c. c .before .cells-valid .ensures (c .if1 .taken))
     (λ c. search steps)
     (λ c. search steps)
     (λ c. search steps)

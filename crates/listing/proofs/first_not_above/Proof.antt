@@ -1,13 +1,13 @@
 -- `listing::first_not_above` meets its contract: the search has come to `at`. Assumes nothing.
 use Prim.Native.Nat.{_+_, _-_, _<_, _≤_}
 use lib.ListN.{length}
-use Rattle.listing.specs.Check.{aboveRight}
+use Rattle.listing.specs.Check.{termAbove}
 use Rattle.words.proofs.Steps.{Passed, steps}
 use Rattle.listing.proofs.first_not_above.Statement.{statement}
 use Rattle.listing.proofs.first_not_above.Tie as tie
 
 abbrev Inv-loop : tie.InvT-loop
-Inv-loop listing start at₀ at = (start < at) × (at ≤ length listing + 1) × Passed (aboveRight listing) (start + 1) (length listing) at
+Inv-loop listing start at₀ at = (start < at) × (at ≤ length listing + 1) × Passed (termAbove listing) (start + 1) (length listing) at
 
 abbrev μ-loop : tie.MeasureT-loop
 μ-loop listing start at₀ at = length listing - at

@@ -1,13 +1,13 @@
 -- `listing::first_term` meets its contract: the search has come to `at`. Assumes nothing.
 use Prim.Native.Nat.{_-_, _≤_}
 use lib.ListN.{length}
-use Rattle.listing.specs.Check.{termRight}
+use Rattle.listing.specs.Check.{termValid}
 use Rattle.words.proofs.Steps.{Passed, steps}
 use Rattle.listing.proofs.first_term.Statement.{statement}
 use Rattle.listing.proofs.first_term.Tie as tie
 
 abbrev Inv-loop : tie.InvT-loop
-Inv-loop listing horizon start at₀ at = (at ≤ length listing) × Passed (termRight listing horizon) start (length listing) at
+Inv-loop listing horizon start at₀ at = (at ≤ length listing) × Passed (termValid listing horizon) start (length listing) at
 
 abbrev μ-loop : tie.MeasureT-loop
 μ-loop listing horizon start at₀ at = length listing - at

@@ -7,7 +7,7 @@ use borrow.Author.Needs.{needs}
 use denote.Ref.{now}
 use Rattle.fields.specs.Words.{mostStrata, mostHorizon}
 use Rattle.fields.specs.declared.Head.{Head}
-use Rattle.listing.specs.Layout.{starts, rowAt}
+use Rattle.listing.specs.Layout.{offsets, rowAt}
 use Rattle.listing.proofs.Accepted.{accepted-sizes, row-by}
 use Rattle.listing.proofs.row_place.Statement.{statement}
 use Rattle.listing.proofs.row_place.Tie as tie
@@ -15,21 +15,22 @@ use Rattle.listing.proofs.row_place.Tie as tie
 abbrev at : tie.Start → ℕ
 at s = rowAt (now (s .args .listing)) (s .args .stratum) (s .args .age)
 
-here : (c : tie.After-starts-of) →
-    (c .starts-of .result .tables + c .before .before .args .stratum * c .before .before .args .h .horizon + (c .before .before .args .age - 1) ≡ at (c .before .before)) × (at (c .before .before) < starts (now (c .before .before .args .listing)) .terms)
+here : (c : tie.After-offsets-of) →
+    (c .offsets-of .result .tables + c .before .before .args .stratum * c .before .before .args .h .horizon + (c .before .before .args .age - 1) ≡ at (c .before .before))
+    × (at (c .before .before) < offsets (now (c .before .before .args .listing)) .terms)
 here c =
     let pre = c .before .before .pre in
-    row-by _ _ _ (pre .1) (c .starts-of .ensures) (pre .0) _ _ (pre .2) (pre .3, pre .4)
+    row-by _ _ _ (pre .1) (c .offsets-of .ensures) (pre .0) _ _ (pre .2) (pre .3, pre .4)
 
 -- a stratum's count times any size of the head is small
-small : (c : tie.After-starts-of) (n : ℕ) → n ≤ mostHorizon → c .before .before .args .stratum * n < 2 ^ 32
+small : (c : tie.After-offsets-of) (n : ℕ) → n ≤ mostHorizon → c .before .before .args .stratum * n < 2 ^ 32
 small c n p =
     let pre = c .before .before .pre in
     let sizes = accepted-sizes _ _ (pre .1) (pre .0) in
     let below : c .before .before .args .stratum ≤ mostStrata = omega (arith, pre .2, ap (λ (h : Head). h .strata) (pre .1), sizes .strata) in
     omega (arith, mul-le-mul {n₂ = mostStrata} {m₂ = mostHorizon} below p)
 
-products : (c : tie.After-starts-of) →
+products : (c : tie.After-offsets-of) →
     let a = c .before .before .args in
     (a .stratum * a .h .horizon < 2 ^ 32) × (a .stratum * a .h .strata < 2 ^ 32)
 products c =

@@ -1,4 +1,4 @@
--- `opening::open_cells` meets its contract: turn i writes cell i. Assumes nothing.
+-- `opening::open_cells` meets its contract: iteration i writes cell i. Assumes nothing.
 use mathlib.Core.Path.{_≡_, ap, ap₂, _∙_}
 use Prim.Native.Nat.{_+_, _-_, _<_}
 use native.Mathlib.Omega.{arith}
@@ -28,9 +28,9 @@ abbrev μ-loop : tie.MeasureT-loop
 loop-holds : tie.Need-loop-holds Inv-loop μ-loop
 loop-holds c =
     let start = c .before .before .before in
-    (ap (λ (h : Head). h .cells) (start .pre .1), filling-none (held-at-sized current shaped (openEntry (now (start .args .listing)))) (start .pre .0 .room))
+    (ap (λ (h : Head). h .cells) (start .pre .1), filling-none (held-at-sized current shaped (openEntry (now (start .args .listing)))) (start .pre .0 .capacity))
 
--- the turn of cell i
+-- the iteration of cell i
 module _ (n : tie.In-loop Inv-loop μ-loop) where
   abbrev start : tie.Start Inv-loop μ-loop
   start = n .before .before .before .before .before
@@ -38,8 +38,10 @@ module _ (n : tie.In-loop Inv-loop μ-loop) where
   there : n .before .loop .i < cells (now (start .args .listing))
   there = omega (arith, n .before .loop .inv .0, n .loop-test .taken)
 
--- the part that is lent in a turn is cell i's
-lent : (c : tie.After-cell Inv-loop μ-loop) → length (take (c .before .before .entry-at .result + current .entry - c .before .before .entry-at .result) (drop (c .before .before .entry-at .result) (c .before .before .before .before .loop .book))) ≡ current .entry
+-- the part that is lent in an iteration is cell i's
+lent : (c : tie.After-cell Inv-loop μ-loop) →
+    let a = c .before .before .entry-at .result in
+    length (take (a + current .entry - a) (drop a (c .before .before .before .before .loop .book))) ≡ current .entry
 lent c =
     let at = c .before .before in
     filling-lent-length (at .before .before .loop .inv .1) (there (at .before)) (at .entry-at .result) (at .entry-at .ensures)

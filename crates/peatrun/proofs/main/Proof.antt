@@ -7,14 +7,14 @@ use Rattle.peatrun.specs.Years.{mostBytes}
 use Rattle.peatrun.proofs.main.Statement.{statement}
 use Rattle.peatrun.proofs.main.Tie as tie
 
-few : (e : tie.Else1) → e .before .before .before .input .given .0 .0 ≤ mostBytes
-few e = ltb-false mostBytes (e .before .before .before .input .given .0 .0) (sym (e .before .too-long .ensures) ∙ e .if1 .left)
+fits : (e : tie.Else1) → e .before .before .before .input .given .0 .0 ≤ mostBytes
+fits e = ltb-false mostBytes (e .before .before .before .input .given .0 .0) (sym (e .before .too-long .ensures) ∙ e .if1 .left)
 
 part-answer-end : tie.Need-part-answer-end
-part-answer-end c = let h = few (c .before) in search needs
+part-answer-end c = let h = fits (c .before) in search needs
 
 answer-requires : tie.Need-answer-requires
-answer-requires c κs = let h = few (c .before .before) in search needs
+answer-requires c κs = let h = fits (c .before .before) in search needs
 
 pub main-spec : {M : Type 1} → statement M
 main-spec =

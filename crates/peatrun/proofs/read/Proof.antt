@@ -1,4 +1,4 @@
--- `peatrun::read` ends: each turn that goes on has read a byte. Assumes nothing.
+-- `peatrun::read` ends: each iteration that goes on has read a byte. Assumes nothing.
 use borrow.Author.Needs.{needs}
 use mathlib.Core.Path.{_≡_}
 use Prim.Native.Nat.{_-_, _≤_}

@@ -10,11 +10,11 @@ refused c =
     let p = s .before .before .before in
     absurd (stated-not-refused _ _ _ (p .pre .0) (p .pre .1) _ (s .statement .ensures) _ (c .enum-told .given .1))
 
-told : tie.Need-returns-2
-told c =
+matched : tie.Need-returns-2
+matched c =
     let s = c .before .before .before in
     let p = s .before .before .before in
     stated-remaining _ _ _ (p .pre .0) (p .pre .1) _ (s .statement .ensures) _ (c .before .stated .given .1)
 
 pub remaining-spec : {M : Type 1} → statement M
-remaining-spec = tie.close (tie.spec (λ c κs. search needs) (λ c. search needs) (λ c. search needs) refused told)
+remaining-spec = tie.close (tie.spec (λ c κs. search needs) (λ c. search needs) (λ c. search needs) refused matched)

@@ -17,15 +17,15 @@ part-run-years-end : tie.Need-part-run-years-end
 part-run-years-end c =
     let a = c .before .before in
     let same = count a in
-    let room = a .before .before .before .before .before .before .before .pre .1 in
+    let capacity = a .before .before .before .before .before .before .before .pre .1 in
     search needs
 
 run-years-requires : tie.Need-run-years-requires
 run-years-requires c κs =
     let a = c .before .before .before in
     let p = a .before .before .before .before .before .before .before .pre in
-    let room = p .1 in
-    (p .0, simp (length-take, length-drop) (omega (arith, count a, room)))
+    let capacity = p .1 in
+    (p .0, simp (length-take, length-drop) (omega (arith, count a, capacity)))
 
 pub run-opened-spec : {M : Type 1} → statement M
 run-opened-spec =

@@ -19,7 +19,8 @@ both : tie.Need-returns-3
 both c =
     let t = c .before .before .before .before .before in
     let s = t .before .before .before .before .before .before .before .before in
-    ran _ _ _ (s .before .before .before .before .before .before .pre) (s .close .result) _ _ (s .close .ensures) _ _ (t .issue .ensures) (t .before .before .enum-told .given .1) _ (c .before .issued .given .1)
+    ran _ _ _ (s .before .before .before .before .before .before .pre) (s .close .result) _ _ (s .close .ensures) _ _ (t .issue .ensures)
+    (t .before .before .enum-told .given .1) _ (c .before .issued .given .1)
 
 pub run-year-spec : {M : Type 1} → statement M
 run-year-spec =

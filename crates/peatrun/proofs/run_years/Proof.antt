@@ -1,4 +1,4 @@
--- `peatrun::run_years` meets its contract: each turn closes and issues a year, and leaves an opened book. Assumes nothing.
+-- `peatrun::run_years` meets its contract: each iteration closes and issues a year, and leaves an opened book. Assumes nothing.
 use borrow.Author.Needs.{needs}
 use mathlib.Core.Path.{_≡_, refl, ap}
 use mathlib.Core.Bool.{false≢true}
@@ -27,10 +27,10 @@ run-year-requires c κs =
     let a = c .before .before .before in
     let p = c .before .before .before .before .before .before .before .before .pre in
     let count = ap (λ (h : Head). h .horizon) (a .before .head .ensures) in
-    let room = p .1 in
-    closable _ _ _ (a .loop .inv .1) (omega (arith, count, c .before .before .loop-test .taken)) _ (omega (arith, a .loop .inv .3, room))
+    let capacity = p .1 in
+    closable _ _ _ (a .loop .inv .1) (omega (arith, count, c .before .before .loop-test .taken)) _ (omega (arith, a .loop .inv .3, capacity))
 
--- the book after a turn, whether its line could be written or not
+-- the book after an iteration, whether its line could be written or not
 then : (c : tie.After-run-year Inv-loop μ-loop) →
     let a = c .before .before .before .before in
     InYear (now (a .before .before .before .before .before .args .listing)) (c .run-year .last .1 .0) (a .loop .year + 1)
@@ -64,7 +64,8 @@ run-years-spec =
     loop-holds
     (λ c. search needs)
     run-year-requires
-    (λ c κs. let p = c .before .before .before .before .before .before .before .before .before .before .before .before .before .before .pre in let few = opened-cells _ _ (p .0 .admits) in let room = p .1 in search needs)
+    (λ c κs. let p = c .before .before .before .before .before .before .before .before .before .before .before .before .before .before .pre in let cells-most = opened-cells _ _
+    (p .0 .admits) in let capacity = p .1 in search needs)
     (λ c. search needs)
     (λ c. search needs)
     (λ c. (then (c .before .before .before .before .before .before .before) .admits, λ e. absurd (false≢true e)))

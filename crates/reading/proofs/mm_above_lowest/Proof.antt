@@ -6,13 +6,13 @@ use native.Mathlib.Omega.{arith}
 use Prim.Native.Nat.{_≤_, _+_, _-_, _^_}
 use lib.Dec.{T}
 use lib.Ieee.{binary32, fits}
-use Rattle.reading.specs.Metres.{over, under, mm}
-use Rattle.reading.proofs.Pattern.{Parted, Tiny, no-nan, tiny, full-parted}
+use Rattle.reading.specs.Metres.{numerator, denominator, mm}
+use Rattle.reading.proofs.Pattern.{Decomposed, Tiny, no-nan, tiny, full-parted}
 use Rattle.reading.proofs.Floor.{Below, Above, below, above, tiny-below, tiny-above}
 use Rattle.reading.proofs.mm_above_lowest.Statement.{statement}
 use Rattle.reading.proofs.mm_above_lowest.Tie as tie
 
--- what owning an `f32` tells: the format holds it
+-- what owning an `f32` gives: the format holds it
 held : (c : tie.Start) → T (fits binary32 (c .args .x))
 held c = subst T (sym (c .good .0 .1)) tt
 
@@ -20,7 +20,7 @@ near : (c : tie.Then1) → Tiny (c .before .before .args .x)
 near c = let s = c .before .before in tiny (s .args .x) (held s) (s .pre) _ _ (c .before .bits .ensures) refl (c .if1 .taken)
 
 full : (c : tie.After-bits2) → let b = c .before .before in
-    (b .bits .result ≤ 138) × Parted (b .before .args .x) (c .bits2 .result + 2 ^ 23) (150 - b .bits .result)
+    (b .bits .result ≤ 138) × Decomposed (b .before .args .x) (c .bits2 .result + 2 ^ 23) (150 - b .bits .result)
 full c =
     let b = c .before .before in
     let s = b .before in
@@ -29,12 +29,12 @@ full c =
 
 negative : (c : tie.Then3) →
     let x = c .before .before .before .before .args .x in
-    Below (over x) (under x) (c .before .bits2 .result + 2 ^ 23) (150 - c .before .before .before .bits .result)
+    Below (numerator x) (denominator x) (c .before .bits2 .result + 2 ^ 23) (150 - c .before .before .before .bits .result)
 negative c = below _ _ _ (full (c .before) .1) (c .before .before .before .before .pre) (c .if3 .taken)
 
 positive : (c : tie.Else3) →
     let x = c .before .before .before .before .args .x in
-    Above (over x) (under x) (c .before .bits2 .result + 2 ^ 23) (150 - c .before .before .before .bits .result)
+    Above (numerator x) (denominator x) (c .before .bits2 .result + 2 ^ 23) (150 - c .before .before .before .bits .result)
 positive c = above _ _ _ (full (c .before) .1) (c .before .before .before .before .pre) (c .if3 .left)
 
 returns-3 : tie.Need-returns-3

@@ -7,7 +7,7 @@ use borrow.Author.Needs.{needs}
 use Rattle.words.proofs.Signed.{call-reads}
 use Rattle.fields.specs.Fields.{tonnesOf}
 use Rattle.terms.specs.Split.{upTo}
-use Rattle.terms.proofs.Sums.{tonnes-size, up-to-size, Part, part-none, part-adds, part-turn, part-end}
+use Rattle.terms.proofs.Sums.{tonnes-size, up-to-size, Part, part-none, part-adds, part-next, part-end}
 use Rattle.terms.proofs.added.Statement.{statement}
 use Rattle.terms.proofs.added.Tie as tie
 
@@ -31,8 +31,8 @@ loop-again c =
     let all = c .before .before in
     let inv = all .before .before .before .loop .inv in (
       search needs,
-      part-turn (inv .1) (call-reads w64 (all .tonnes .ok) (all .tonnes .ensures)) tonnes-size (search needs),
-      part-turn (inv .2) (call-reads w64 (c .up-to .ok) (c .up-to .ensures)) (up-to-size 5) (search needs),
+      part-next (inv .1) (call-reads w64 (all .tonnes .ok) (all .tonnes .ensures)) tonnes-size (search needs),
+      part-next (inv .2) (call-reads w64 (c .up-to .ok) (c .up-to .ensures)) (up-to-size 5) (search needs),
     )
 
 returns : tie.Need-returns Inv-loop μ-loop

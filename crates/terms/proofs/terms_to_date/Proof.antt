@@ -1,15 +1,15 @@
--- `terms::terms_to_date` meets its contract: the terms are what stands behind the cells, and those to date come first. Assumes nothing.
+-- `terms::terms_to_date` meets its contract: the terms are what follows the cells, and those to date come first. Assumes nothing.
 use mathlib.Core.Path.{_≡_, _∙_}
 use denote.Ref.{now}
 use borrow.Author.Needs.{needs}
-use Rattle.listing.specs.Layout.{starts}
+use Rattle.listing.specs.Layout.{offsets}
 use Rattle.listing.proofs.Accepted.{accepted-sizes, terms-by}
 use Rattle.terms.proofs.Sums.{first-all, first-up-to, first-most}
 use Rattle.terms.proofs.terms_to_date.Statement.{statement}
 use Rattle.terms.proofs.terms_to_date.Tie as tie
 
-begins : (c : tie.After-starts-of) → c .starts-of .result .terms ≡ starts (now (c .before .before .before .args .listing)) .terms
-begins c = terms-by _ _ _ (c .before .head .ensures) (c .starts-of .ensures) (c .before .before .before .pre) .0
+begins : (c : tie.After-offsets-of) → c .offsets-of .result .terms ≡ offsets (now (c .before .before .before .args .listing)) .terms
+begins c = terms-by _ _ _ (c .before .head .ensures) (c .offsets-of .ensures) (c .before .before .before .pre) .0
 
 added-requires : tie.Need-added-requires
 added-requires c κs =

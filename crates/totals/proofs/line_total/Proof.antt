@@ -1,4 +1,4 @@
--- `totals::line_total` meets its contract: in turn i the sum is that of the first i cells, below 2 ^ 28 each. Assumes nothing.
+-- `totals::line_total` meets its contract: in iteration i the sum is that of the first i cells, below 2 ^ 28 each. Assumes nothing.
 use mathlib.Core.Path.{_≡_}
 use Prim.Native.Nat.{_+_, _-_, _*_, _^_, _≤_}
 use native.Mathlib.Nat.{le-antisymm}

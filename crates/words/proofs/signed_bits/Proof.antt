@@ -15,7 +15,7 @@ halved c =
     let high = c .before .args .high in
     let low = c .before .args .low in
     record {
-      some = omega arith;
+      width-fits = omega arith;
       half = one-shl (high - low) (omega arith) ∙ ap (λ (m : ℕ). 2 ^ m) (omega arith);
       below = rw (c .bits .ensures) (field-below (c .before .args .w) low (high + 1 - low));
     }

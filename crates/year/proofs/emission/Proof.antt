@@ -8,10 +8,10 @@ use Rattle.year.proofs.emission.Statement.{statement}
 use Rattle.year.proofs.emission.Tie as tie
 
 mul-k : tie.Need-mul-k
-mul-k c = let p = c .before .before .pre in omega (arith, area-most (p .head-right) (p .cell-right))
+mul-k c = let p = c .before .before .pre in omega (arith, area-most (p .head-valid) (p .cell-valid))
 
 mul-methane-2 : tie.Need-mul-methane-2
-mul-methane-2 c = let p = c .before .before .before .before .pre in omega (arith, ratio-most (p .head-right) (p .cell-right))
+mul-methane-2 c = let p = c .before .before .before .before .pre in omega (arith, ratio-most (p .head-valid) (p .cell-valid))
 
 mul-methane-3 : tie.Need-mul-methane-3
 mul-methane-3 c = omega (arith, fit-methane (c .before .before .before .before .pre))

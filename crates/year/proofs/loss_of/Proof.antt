@@ -14,20 +14,20 @@ within c = let a = c .before .args in rw (c .mm-of .ensures) (lost-within (a .h)
 add-emission : tie.Need-add-emission
 add-emission c =
     let m = c .before .before in
-    let most = m .before .pre .0 .cell-right .entered in
+    let most = m .before .pre .0 .cell-valid .entered in
     omega (arith, within m)
 
 add-emission-2 : tie.Need-add-emission-2
 add-emission-2 c =
     let m = c .before .before .before .before in
-    let most = m .before .pre .0 .cell-right .entered in
+    let most = m .before .pre .0 .cell-valid .entered in
     omega (arith, within m)
 
 emission-requires : tie.Need-emission-requires
 emission-requires c κs =
     let m = c .before .before .before .before in
     let fit = m .before .pre .0 in
-    record { head-right = fit .head-right; cell-right = fit .cell-right; lost = within m }
+    record { head-valid = fit .head-valid; cell-valid = fit .cell-valid; lost = within m }
 
 sub-t8 : tie.Need-sub-t8
 sub-t8 c =

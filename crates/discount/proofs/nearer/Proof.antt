@@ -1,9 +1,0 @@
--- `discount::nearer` meets its contract: a quotient is not above its dividend, so the sum fits. Assumes nothing.
-use borrow.Author.Needs.{needs}
-use native.Mathlib.Nat.{div-le-self}
-use native.Mathlib.Omega.{arith}
-use Rattle.discount.proofs.nearer.Statement.{statement}
-use Rattle.discount.proofs.nearer.Tie as tie
-
-pub nearer-spec : {M : Type 1} → statement M
-nearer-spec = tie.close (tie.spec (λ c. search needs) (λ c. omega (arith, div-le-self (c .args .n) (c .args .r))) (λ c. search needs))
