@@ -14,7 +14,8 @@ use Rattle.words.specs.Bits.{within}
 use Rattle.words.proofs.Answers.{and-left, and-right, within-most}
 use Rattle.sums.specs.Sums.{weighted, sum}
 use Rattle.sums.proofs.Meaning.{weighted-le, sum-le}
-use Rattle.discount.specs.Discount.{square, distance, lengthsValid, valuesValid, mostPools, mostValue, mostStock, mostSquares, Bounded}
+use Rattle.discount.specs.Discount.{square, distance, lengthsValid, valuesValid, mostPools, mostValue}
+use Rattle.discount.specs.Bounds.{mostStock, mostSquares, Bounded}
 
 pub lengths : (a b c d : ℕ) → lengthsValid a b c d ≡ true → (a ≡ b) × (a ≡ c) × (a ≡ d) × (a ≤ mostPools)
 unfolding lengthsValid

@@ -17,7 +17,8 @@ use borrow.Author.Needs.{needs}
 use Rattle.words.proofs.Answers.{and-left, and-right, flag-true, flag-false}
 use Rattle.sums.specs.Sums.{sum, allAtMost}
 use Rattle.sums.proofs.Steps.{Tested, tested-none, tested-more, tested-stop, tested-all}
-use Rattle.discount.specs.Discount.{lengthsValid, poolValid, mostValue, mostPools, StockSums}
+use Rattle.discount.specs.Discount.{lengthsValid, mostValue, mostPools}
+use Rattle.discount.specs.Bounds.{poolValid, StockSums}
 use Rattle.discount.proofs.Bounds.{lengths, bounded}
 
 -- ---- one list

@@ -5,7 +5,8 @@ use native.Mathlib.Nat.{mul-le-mul, mul-le-mul-right, div-lt-iff-lt-mul, le-div-
 use native.Mathlib.Omega.{arith}
 use mir.Val.{Fits}
 use mir.Syntax.{w32}
-use Rattle.discount.specs.Discount.{square, rootLimit, roundedDown}
+use Rattle.discount.specs.Discount.{square, roundedDown}
+use Rattle.discount.specs.Bounds.{rootLimit}
 use Rattle.discount.proofs.Meaning.{rounded-down-only}
 
 -- what is not above 10^8 × q, over d²

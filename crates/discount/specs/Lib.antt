@@ -1,2 +1,3 @@
 -- What the contracts of discount cite.
 pub mod Discount
+pub mod Bounds

@@ -10,7 +10,8 @@ ghost use Prim.Native.Nat.{_+_, _*_, _/_, _<_, _≤_};
 ghost use lib.ListN.{length};
 ghost use Rattle.words.specs.Answers.{amount};
 ghost use Rattle.sums.specs.Sums.{weighted};
-ghost use Rattle.discount.specs.Discount.{discount, lengthsValid, poolValid, distance, factor, roundedDown, mostStock, mostSquares, rootLimit, Bounded, TooLarge, StockSums};
+ghost use Rattle.discount.specs.Discount.{discount, lengthsValid, distance, factor, roundedDown};
+ghost use Rattle.discount.specs.Bounds.{poolValid, mostStock, mostSquares, rootLimit, Bounded, TooLarge, StockSums};
 
 const MOST_POOLS: usize = 5;
 

@@ -6,7 +6,8 @@ use borrow.Author.Tests.{not-true, not-false}
 use Rattle.words.specs.Answers.{accepted}
 use Rattle.words.proofs.Answers.{flag-true, need-next, answers}
 use Rattle.sums.specs.Sums.{sum}
-use Rattle.discount.specs.Discount.{distance, factor, discount, Bounded}
+use Rattle.discount.specs.Discount.{distance, factor, discount}
+use Rattle.discount.specs.Bounds.{Bounded}
 use Rattle.discount.proofs.Bounds.{distance-le}
 use Rattle.discount.proofs.discount.Statement.{statement}
 use Rattle.discount.proofs.discount.Tie as tie

@@ -1,6 +1,6 @@
 -- `discount::pool_valid` meets its contract: its four tests are the definition's. Assumes nothing.
 use mathlib.Core.Path.{refl}
-use Rattle.discount.specs.Discount.{poolValid}
+use Rattle.discount.specs.Bounds.{poolValid}
 use Rattle.discount.proofs.pool_valid.Statement.{statement}
 use Rattle.discount.proofs.pool_valid.Tie as tie
 

@@ -4,7 +4,8 @@ use native.Mathlib.Omega.{arith}
 use native.Mathlib.Nat.{mul-le-mul}
 use mathlib.Core.Logic.{⊎-elim}
 use Prim.Native.Nat.{_+_, _<_, _≤_}
-use Rattle.discount.specs.Discount.{square, rootLimit}
+use Rattle.discount.specs.Discount.{square}
+use Rattle.discount.specs.Bounds.{rootLimit}
 use Rattle.discount.proofs.Newton.{Between, root-positive, step-above, step-falls, step-between}
 use Rattle.discount.proofs.root.Statement.{statement}
 use Rattle.discount.proofs.root.Tie as tie
