@@ -72,7 +72,7 @@ typedef struct {
     bool withdrawn;
 } peat_account;
 
-/* Writes a new book: year 0, nothing issued, the plan years of the listing, no losses. Whatever stood in it goes. */
+/* Writes a new book: year 0, nothing issued, the plan years of the listing, no losses. Whatever it held is overwritten. */
 peat_answer peat_open(const uint32_t *listing, size_t listing_len, uint32_t *book, size_t book_len);
 
 /*
@@ -98,7 +98,7 @@ peat_account peat_statement(const uint32_t *listing, size_t listing_len, const u
 
 /*
  * Works out every year to the horizon, as planned in the listing. Writes each year's kg CO2e over all cells into
- * `output`, year 1 first. `book` is scratch: whatever is in it goes, and it is left as closed at the horizon.
+ * `output`, year 1 first. `book` is scratch: whatever it holds is overwritten, and it is left as closed at the horizon.
  */
 peat_answer peat_forecast(const uint32_t *listing, size_t listing_len, uint32_t *book, size_t book_len,
                           uint64_t *output, size_t output_len);

@@ -58,18 +58,18 @@ pub fn part(listing: &[u32], place: usize) -> &'static str {
 
 /// What one word of a listing contains.
 pub enum Content<'a> {
-    Head(&'a Site),
-    Rates(&'a Site),
+    Sizes(&'a Site),
+    Figures(&'a Site),
     Row(usize, usize, Row),
-    Peat(usize, Cell),
-    Ground(usize, Cell),
+    Depth(usize, Cell),
+    Area(usize, Cell),
     Term(YearlyTerm),
 }
 
 impl Site {
     /// The listing, word for word.
     pub fn contents(&self) -> Vec<Content<'_>> {
-        let mut contents = vec![Content::Head(self), Content::Rates(self)];
+        let mut contents = vec![Content::Sizes(self), Content::Figures(self)];
         for (stratum, table) in self.tables.iter().enumerate() {
             contents.extend(
                 (1..)
@@ -78,7 +78,7 @@ impl Site {
             );
         }
         for (i, &cell) in self.cells.iter().enumerate() {
-            contents.extend([Content::Peat(i, cell), Content::Ground(i, cell)]);
+            contents.extend([Content::Depth(i, cell), Content::Area(i, cell)]);
         }
         contents.extend(self.terms.iter().map(|&term| Content::Term(term)));
         contents
@@ -101,18 +101,20 @@ impl Site {
 impl Content<'_> {
     pub fn word(&self) -> u32 {
         match *self {
-            Content::Head(site) => {
+            Content::Sizes(site) => {
                 let (cells, strata) = (site.cells.len() as u32, site.tables.len() as u32);
                 1 << 28 | cells << 16 | strata << 8 | site.horizon
             }
-            Content::Rates(site) => 2 << 28 | site.buffer << 16 | site.warming << 8 | site.methane,
+            Content::Figures(site) => {
+                2 << 28 | site.buffer << 16 | site.warming << 8 | site.methane
+            }
             Content::Row(_, _, row) => {
                 3 << 28 | row.drainage << 20 | row.oxidation << 10 | row.burning
             }
-            Content::Peat(_, cell) => {
+            Content::Depth(_, cell) => {
                 4 << 28 | cell.stratum << 24 | cell.conversion << 16 | cell.entered
             }
-            Content::Ground(_, cell) => 5 << 28 | cell.area << 12 | cell.density,
+            Content::Area(_, cell) => 5 << 28 | cell.area << 12 | cell.density,
             Content::Term(term) => {
                 6 << 28 | term.term << 24 | term.year << 17 | term.tonnes as u32 & 0x1_FFFF
             }
@@ -122,13 +124,13 @@ impl Content<'_> {
     /// The same in plain words.
     pub fn text(&self) -> String {
         match *self {
-            Content::Head(site) => format!(
+            Content::Sizes(site) => format!(
                 "cells {}, strata {}, horizon {} years",
                 site.cells.len(),
                 site.tables.len(),
                 site.horizon
             ),
-            Content::Rates(site) => format!(
+            Content::Figures(site) => format!(
                 "buffer {} percent, warming potential of methane {}, methane emission ratio {} thousandths",
                 site.buffer, site.warming, site.methane
             ),
@@ -136,11 +138,11 @@ impl Content<'_> {
                 "stratum {stratum}, age {age}: drainage {} cm, oxidation at most {} mm, burning at most {} mm",
                 row.drainage, row.oxidation, row.burning
             ),
-            Content::Peat(i, cell) => format!(
+            Content::Depth(i, cell) => format!(
                 "cell {i}: stratum {}, conversion year {}, entered depth {} mm",
                 cell.stratum, cell.conversion, cell.entered
             ),
-            Content::Ground(i, cell) => format!(
+            Content::Area(i, cell) => format!(
                 "cell {i}: area {} m2, carbon density {} tenths of kg per m3",
                 cell.area, cell.density
             ),

@@ -14,21 +14,21 @@ use Rattle.fields.specs.declared.Head.{Head}
 use Rattle.fields.specs.declared.Cell.{Cell}
 use Rattle.listing.specs.Layout.{head, cells, cell}
 use Rattle.listing.specs.Accepted.{Accepted}
-use Rattle.terms.specs.Terms.{termsToDate, mostTerms, mostTermsBelow}
+use Rattle.terms.specs.Terms.{termsToDate, mostTermSum, mostTermSumBelow}
 use Rattle.terms.proofs.Sums.{terms-size, terms-most}
 use Rattle.year.specs.Year.{kgOf, mostEmission}
 use Rattle.year.proofs.Laws.{emission-most}
-use Rattle.book.specs.Current.{current, issued, wordsOf, kgTo, Sound}
+use Rattle.book.specs.Current.{current, issued, wordsOf, kgToDate, Sound}
 use Rattle.book.specs.Layout.{issuedWords, year, entryOf}
 use Rattle.book.specs.Sound.{CellWordsValid}
 use Rattle.balance.specs.Balance.{peatTonnes, mostPeat, toDate, withheld, balanceOf, balance, mostBalance, mostTonnes, due, balanceIn, tonnesDue}
 
 -- ---- peat: each cell has its most
 module _ (l b : List ℕ) (sound : Sound l b) where
-  pub kg-most : (n : ℕ) → n ≤ cells l → sumBelow (kgTo l b) n ≤ mostEmission * n
-  kg-most n h = sum-most (kgTo l b) mostEmission n (λ i p. emission-most (sound .words-valid i (omega arith) .fit))
+  pub kg-most : (n : ℕ) → n ≤ cells l → sumBelow (kgToDate l b) n ≤ mostEmission * n
+  kg-most n h = sum-most (kgToDate l b) mostEmission n (λ i p. emission-most (sound .words-valid i (omega arith) .fit))
 
-  pub peat-most : peatTonnes l (kgTo l b) ≤ mostPeat
+  pub peat-most : peatTonnes l (kgToDate l b) ≤ mostPeat
   unfolding peatTonnes
   peat-most = let cells-most = sound .fitted .accepted .head-valid .cells .1 in omega (arith, kg-most (cells l) (omega arith))
 
@@ -39,10 +39,10 @@ module _ (l b : List ℕ) (sound : Sound l b) {h : Head} {i : ℕ} {c : Cell} {w
   kg-words = rw (ph, pc, pw) (sound .words-valid i lt)
 
   -- kg is the sum so far: with r it is that of one cell more, and fits
-  pub kg-next : {kg r : ℕ} → kg ≡ sumBelow (kgTo l b) i → r ≡ kgOf h c (entryOf w) → (kg + r ≡ sumBelow (kgTo l b) (i + 1)) × (kg + r < 2 ^ 64)
+  pub kg-next : {kg r : ℕ} → kg ≡ sumBelow (kgToDate l b) i → r ≡ kgOf h c (entryOf w) → (kg + r ≡ sumBelow (kgToDate l b) (i + 1)) × (kg + r < 2 ^ 64)
   kg-next {kg} {r} pk pr =
       let cells-most = sound .fitted .accepted .head-valid .cells .1 in
-      let adds : kg + r ≡ sumBelow (kgTo l b) (i + 1) = sum-next (kgTo l b) i pk (rw (pr, ph, pc, pw)) in
+      let adds : kg + r ≡ sumBelow (kgToDate l b) (i + 1) = sum-next (kgToDate l b) i pk (rw (pr, ph, pc, pw)) in
       (adds, omega (arith, kg-most l b sound (i + 1) (omega arith)))
 
 -- ---- the balance
@@ -51,17 +51,17 @@ unfolding withheld
 held-size p s h = omega (arith, mul-le-mul-right (atLeast0 s) h, atLeast0-size s)
 
 module _ (l : List ℕ) (t peat : ℕ) (a : Accepted l) where
-  pub date-size : (last : ℕ) → natAbs (toDate l t peat last) ≤ peat + mostTermsBelow
+  pub date-size : (last : ℕ) → natAbs (toDate l t peat last) ≤ peat + mostTermSumBelow
   date-size last = omega (arith, size-add (pos peat) (termsToDate l t last), terms-size l t last a)
 
-  pub balance-size : natAbs (balanceOf l t peat) ≤ 2 * (peat + mostTermsBelow)
+  pub balance-size : natAbs (balanceOf l t peat) ≤ 2 * (peat + mostTermSumBelow)
   unfolding balanceOf
   balance-size =
       let held = withheld (head l .buffer) (toDate l t peat 5) in
       omega (arith, held-size (head l .buffer) (toDate l t peat 5) (a .head-valid .buffer), date-size 5, date-size 8, size-minus (toDate l t peat 8) (pos held))
 
   -- what is withheld only takes away
-  pub balance-most : atLeast0 (balanceOf l t peat) ≤ peat + mostTerms
+  pub balance-most : atLeast0 (balanceOf l t peat) ≤ peat + mostTermSum
   unfolding balanceOf atLeast0
   balance-most =
       omega (arith, atLeast0-less (toDate l t peat 8) (withheld (head l .buffer) (toDate l t peat 5)), atLeast0-add (pos peat) (termsToDate l t 8), terms-most l t 8 a)
@@ -79,7 +79,7 @@ balance-same l t u f g p q = balance-by l l t u f g p (sum-same f g (cells l) q)
 pub balance-fits : (l b : List ℕ) → Sound l b → (natAbs (balanceIn l b) ≤ mostTonnes) × (atLeast0 (balanceIn l b) ≤ mostBalance)
 balance-fits l b s =
     let a = s .fitted .accepted in
-    let peat = peatTonnes l (kgTo l b) in
+    let peat = peatTonnes l (kgToDate l b) in
     (omega (arith, balance-size l (year b) peat a, peat-most l b s), omega (arith, balance-most l (year b) peat a, peat-most l b s))
 
 -- ---- an issue

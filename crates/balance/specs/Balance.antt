@@ -7,9 +7,9 @@ use Rattle.words.specs.Bits.{atLeast0}
 use Rattle.words.specs.Sums.{sumBelow}
 use Rattle.fields.specs.Words.{mostCells}
 use Rattle.listing.specs.Layout.{head, cells}
-use Rattle.terms.specs.Terms.{termsToDate, mostTerms}
+use Rattle.terms.specs.Terms.{termsToDate, mostTermSum}
 use Rattle.year.specs.Year.{mostEmission}
-use Rattle.book.specs.Current.{issued, kgTo}
+use Rattle.book.specs.Current.{issued, kgToDate}
 use Rattle.book.specs.Layout.{year}
 
 -- peat tonnes to date: the kg to date of all cells added, divided by 1,000, rounded down; this is term 2
@@ -37,7 +37,7 @@ balance l t kg = balanceOf l t (peatTonnes l kg)
 
 -- the greatest balance, 254,770,500
 abbrev pub mostBalance : ℕ
-mostBalance = mostPeat + mostTerms
+mostBalance = mostPeat + mostTermSum
 
 -- no number of tonnes on the way to a balance is larger than this, above or below zero
 abbrev pub mostTonnes : ℕ
@@ -51,7 +51,7 @@ due z issued = atLeast0 (z -ℤ pos issued)
 
 -- the balance, and what an issue answers
 abbrev pub balanceIn : List ℕ → List ℕ → ℤ
-balanceIn l b = balance l (year b) (kgTo l b)
+balanceIn l b = balance l (year b) (kgToDate l b)
 
 abbrev pub tonnesDue : List ℕ → List ℕ → ℕ
 tonnesDue l b = due (balanceIn l b) (issued b)

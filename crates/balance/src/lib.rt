@@ -8,15 +8,15 @@ ghost use Rattle.words.specs.Sums.{sumBelow};
 ghost use Rattle.fields.specs.Words.{mostBuffer};
 ghost use Rattle.listing.specs.Layout.{cells};
 ghost use Rattle.listing.specs.Accepted.{Accepted};
-ghost use Rattle.terms.specs.Terms.{mostTermsBelow};
-ghost use Rattle.book.specs.Current.{kgTo, Sound};
+ghost use Rattle.terms.specs.Terms.{mostTermSumBelow};
+ghost use Rattle.book.specs.Current.{kgToDate, Sound};
 ghost use Rattle.balance.specs.Balance.{peatTonnes, mostPeat, withheld, balanceOf, mostBalance, mostTonnes, due, tonnesDue};
 use book::BOOK;
 
 // The kg to date of all cells, added.
 fn kg_to_date(listing: &[u32], book: &[u32]) -> u64
     requires { ⌜ Sound (now listing) (now book) ⌝ }
-    ensures { λ r. ⌜ r ≡ sumBelow (kgTo (now (listing .entry)) (now (book .entry))) (cells (now (listing .entry))) ⌝ }
+    ensures { λ r. ⌜ r ≡ sumBelow (kgToDate (now (listing .entry)) (now (book .entry))) (cells (now (listing .entry))) ⌝ }
 {
     let h = listing::head(listing);
     let cells = h.cells as usize;
@@ -33,7 +33,7 @@ fn kg_to_date(listing: &[u32], book: &[u32]) -> u64
 // Peat tonnes to date: term 2.
 fn peat_tonnes(listing: &[u32], book: &[u32]) -> u64
     requires { ⌜ Sound (now listing) (now book) ⌝ }
-    ensures { λ r. ⌜ r ≡ peatTonnes (now (listing .entry)) (kgTo (now (listing .entry)) (now (book .entry))) ⌝ }
+    ensures { λ r. ⌜ r ≡ peatTonnes (now (listing .entry)) (kgToDate (now (listing .entry)) (now (book .entry))) ⌝ }
 {
     kg_to_date(listing, book) / 1000
 }
@@ -47,7 +47,7 @@ fn at_least_0(z: i64) -> u64
 
 // Peat and the other terms to date, added.
 fn with_peat(peat: u64, terms: i64) -> i64
-    requires { ⌜ (peat ≤ mostPeat) × (natAbs terms ≤ mostTermsBelow) ⌝ }
+    requires { ⌜ (peat ≤ mostPeat) × (natAbs terms ≤ mostTermSumBelow) ⌝ }
     ensures { λ r. ⌜ r ≡ pos peat +ℤ terms ⌝ }
 {
     peat as i64 + terms

@@ -16,7 +16,7 @@ use Rattle.fields.specs.declared.Head.{Head}
 use Rattle.fields.specs.declared.Cell.{Cell}
 use Rattle.year.specs.declared.Entry.{Entry}
 use Rattle.book.specs.Layout.{yearKind, issuedKind, Shaped, entryAt, yearAt, issuedAt, issuedWords, year, issued, entryOf, wordsOf, entry, stored, withYear, withIssued, planWord, withPlan}
-use Rattle.book.specs.Check.{entryValid}
+use Rattle.book.specs.Check.{entryWordValid}
 use Rattle.book.specs.Sound.{CellInBook, All}
 use Rattle.book.specs.declared.Shape.{Shape}
 use Rattle.book.proofs.Places.{entry-before}
@@ -99,13 +99,13 @@ module _ (w : List ℕ) (long : 3 ≤ length w) (f : Bool) (y : ℕ) where
   unfolding entryOf
   entry-first h = rw (first, other 1 (omega arith), other 2 (omega arith), plan-of f y h, mark-of f y h)
 
-  valid-first : (n : ℕ) (h : Head) (c : Cell) → y ≤ h .horizon → h .horizon < 2 ^ 8 → All (entryValid h c w) n → All (entryValid h c (set w 0 (planWord f y))) n
-  unfolding entryValid
+  valid-first : (n : ℕ) (h : Head) (c : Cell) → y ≤ h .horizon → h .horizon < 2 ^ 8 → All (entryWordValid h c w) n → All (entryWordValid h c (set w 0 (planWord f y))) n
+  unfolding entryWordValid
   valid-first n h c p q r =
       record {
         each =
             λ j lt.
-            by-test (λ (t : Bool). entryValid h c (set w 0 (planWord f y)) j ≡ true) (eqb j 0) true true
+            by-test (λ (t : Bool). entryWordValid h c (set w 0 (planWord f y)) j ≡ true) (eqb j 0) true true
             (λ e. rw (e, first) (plan-valid (h .horizon) f y p q))
             (λ e. entry-rest h c (set w 0 (planWord f y)) w other j e ∙ r .each j lt);
       }
@@ -147,10 +147,11 @@ module _ (s : Shape) (b : List ℕ) (i : ℕ) (new : Entry) (j : ℕ) (capacity 
       case true = entry-first (wordsOf s b j) (words-long s b j capacity) (new .withdrawn) (new .plan) h
       case false = refl
 
-  pub valid-put : (n : ℕ) (h : Head) (c : Cell) → new .plan ≤ h .horizon → h .horizon < 2 ^ 8 → All (entryValid h c (wordsOf s b j)) n → All (entryValid h c (wordsOf s (withPlan s b i new) j)) n
+  pub valid-put : (n : ℕ) (h : Head) (c : Cell) → new .plan ≤ h .horizon → h .horizon < 2 ^ 8 → All (entryWordValid h c (wordsOf s b j)) n →
+      All (entryWordValid h c (wordsOf s (withPlan s b i new) j)) n
   valid-put n h c p q r =
       rw (words-put s (capacity .shaped) b i word j)
-      (by-test (λ (w : List ℕ). All (entryValid h c w) n) (eqb i j) (set (wordsOf s b j) 0 word) (wordsOf s b j)
+      (by-test (λ (w : List ℕ). All (entryWordValid h c w) n) (eqb i j) (set (wordsOf s b j) 0 word) (wordsOf s b j)
       (λ e. valid-first (wordsOf s b j) (words-long s b j capacity) (new .withdrawn) (new .plan) n h c p q r)
       (λ e. r))
 

@@ -13,7 +13,7 @@ use Rattle.year.specs.Year.{mostLoss}
 use Rattle.year.specs.declared.Entry.{Entry}
 use Rattle.year.proofs.Laws.{most-entered}
 use Rattle.book.specs.Layout.{oxidisedKind, burnedKind, Sized, Shaped, entryOf, heldWords}
-use Rattle.book.specs.Check.{entryValid}
+use Rattle.book.specs.Check.{entryWordValid}
 use Rattle.book.specs.Held.{heldAt}
 use Rattle.book.specs.Sound.{All, Storable, EntryValid}
 use Rattle.book.specs.declared.Shape.{Shape}
@@ -47,7 +47,7 @@ module _ {h : Head} {c : Cell} (head : HeadValid h) (cell : CellValid (h .strata
       record { plan = omega arith; oxidised = omega arith; burned = omega arith }
 
   -- and its words are valid
-  pub held-valid : (n : ℕ) → Sized n → All (entryValid h c (heldWords n e)) n
+  pub held-valid : (n : ℕ) → Sized n → All (entryWordValid h c (heldWords n e)) n
   unfolding heldWords
   held-valid n g =
       let most = cell .entered in
@@ -55,7 +55,7 @@ module _ {h : Head} {c : Cell} (head : HeadValid h) (cell : CellValid (h .strata
       let p = plan-valid (h .horizon) (e .withdrawn) (e .plan) (valid .plan) (omega arith) in
       let o = oxidised-valid (e .oxidised) (valid-storable .oxidised) in
       let b = burned-valid (mostLoss h c) (e .oxidised) (e .burned) (valid .most) (omega (arith, most-entered h c)) in
-      by-size (λ (m : ℕ). All (entryValid h c (heldWords m e)) m) n g (entry-all 3 h c (heldWords 3 e) p o b)
+      by-size (λ (m : ℕ). All (entryWordValid h c (heldWords m e)) m) n g (entry-all 3 h c (heldWords 3 e) p o b)
 
 -- ---- all cells of an accepted listing, with valid entries e
 
@@ -64,7 +64,7 @@ module _ (s : Shape) (g : Shaped s) (e : ℕ → Entry) where
   held-at-sized i = held-sized (s .entry) (e i) (g .entry)
 
   module _ (l : List ℕ) (a : Accepted l) (valid : (i : ℕ) → i < cells l → EntryValid (head l) (cell l i) (e i)) where
-    pub held-at-valid : (i : ℕ) → i < cells l → All (entryValid (head l) (cell l i) (heldAt s e i)) (s .entry)
+    pub held-at-valid : (i : ℕ) → i < cells l → All (entryWordValid (head l) (cell l i) (heldAt s e i)) (s .entry)
     held-at-valid i lt = held-valid (a .head-valid) (a .cell-valid i lt) (e i) (valid i lt) (s .entry) (g .entry)
 
     pub held-at-entry : (i : ℕ) → i < cells l → entryOf (heldAt s e i) ≡ e i

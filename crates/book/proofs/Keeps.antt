@@ -16,7 +16,7 @@ use Rattle.words.proofs.Signed.{by-test}
 use Rattle.listing.specs.Layout.{head, cells, horizon, cell}
 use Rattle.year.specs.declared.Entry.{Entry}
 use Rattle.book.specs.Layout.{yearKind, issuedKind, Shaped, entryAt, bookSize, yearAt, issuedAt, issuedWords, stored, withYear, withIssued, planWord, withPlan}
-use Rattle.book.specs.Check.{isHeadWord, headValid, entryValid, capacityChecked, fitted, admitted}
+use Rattle.book.specs.Check.{isHeadWord, headWordValid, entryWordValid, capacityChecked, fitted, admitted}
 use Rattle.book.specs.Sound.{All, WordsValid}
 use Rattle.book.specs.declared.Shape.{Shape}
 use Rattle.book.proofs.Words.{kind-of, year-valid}
@@ -88,8 +88,8 @@ issued-admits s g l b n a =
 
 -- all cells' words stored, behind a valid head
 pub filled-admits :
-    (s : Shape) (g : Shaped s) (l b : List ℕ) → fitted s l b .done ≡ true → All (headValid (horizon l) b) (s .head) →
-    (f : ℕ → List ℕ) → ((i : ℕ) → length (f i) ≡ s .entry) → ((i : ℕ) → i < cells l → All (entryValid (head l) (cell l i) (f i)) (s .entry)) →
+    (s : Shape) (g : Shaped s) (l b : List ℕ) → fitted s l b .done ≡ true → All (headWordValid (horizon l) b) (s .head) →
+    (f : ℕ → List ℕ) → ((i : ℕ) → length (f i) ≡ s .entry) → ((i : ℕ) → i < cells l → All (entryWordValid (head l) (cell l i) (f i)) (s .entry)) →
     admitted s l (filled (s .entry) b (s .head) f (cells l)) .done ≡ true
 filled-admits s g l b fits heads f sized w =
     let capacity = fitted-accepted s l b g fits .capacity in

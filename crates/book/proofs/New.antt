@@ -16,7 +16,7 @@ use Rattle.listing.specs.Layout.{head, cells, horizon, cell}
 use Rattle.listing.specs.Accepted.{Accepted}
 use Rattle.year.specs.declared.Entry.{Entry}
 use Rattle.book.specs.Layout.{yearKind, issuedKind, Shaped, yearAt, issuedAt, issuedWords, wordsOf, stored, withYear, withIssued}
-use Rattle.book.specs.Check.{isHeadWord, headValid, fitted}
+use Rattle.book.specs.Check.{isHeadWord, headWordValid, fitted}
 use Rattle.book.specs.Held.{heldAt, newBook, Holds}
 use Rattle.book.specs.Sound.{All, EntryValid}
 use Rattle.book.specs.declared.Shape.{Shape}
@@ -90,7 +90,7 @@ module _ (s : Shape) (g : Shaped s) (l b : List ℕ) (fits : fitted s l b .done 
         let h = accepted-here .head-valid .horizon in
         rw (getD-set-same b yearAt (wordOf yearKind (t % 2 ^ 28)) 0 (omega (arith, capacity)), same) (year-valid (horizon l) t in-time (omega arith))
 
-    front-valid : All (headValid (horizon l) front) (s .head)
+    front-valid : All (headWordValid (horizon l) front) (s .head)
     unfolding isHeadWord
     front-valid =
         record {

@@ -80,8 +80,8 @@ joined-stored kind from (suc n) x b capacity h =
 pub stored-same : (kind from n x k : ℕ) (b b′ : List ℕ) → from + n ≤ length b → from + n ≤ length b′ → ((from ≤ k → from + n ≤ k) → getD b k 0 ≡ getD b′ k 0) →
     getD (stored kind b from n x) k 0 ≡ getD (stored kind b′ from n x) k 0
 unfolding stored
-stored-same kind from zero x k b b′ capacity room′ same = same (λ le. omega arith)
-stored-same kind from (suc n) x k b b′ capacity room′ same =
+stored-same kind from zero x k b b′ capacity capacity′ same = same (λ le. omega arith)
+stored-same kind from (suc n) x k b b′ capacity capacity′ same =
     let w = wordOf kind (x % 2 ^ 28) in
     stored-same kind from n (x / 2 ^ 28) k (set b (from + n) w) (set b′ (from + n) w) (rw length-set (omega arith)) (rw length-set (omega arith))
     (λ beside.

@@ -12,7 +12,7 @@ use Rattle.fields.specs.declared.Head.{Head}
 use Rattle.fields.specs.declared.Cell.{Cell}
 use Rattle.listing.specs.Layout.{head, cells, cell}
 use Rattle.book.specs.Layout.{Sized, entryAt, bookSize, wordsOf}
-use Rattle.book.specs.Check.{entryValid, bookValid}
+use Rattle.book.specs.Check.{entryWordValid, bookWordValid}
 use Rattle.book.specs.Sound.{Fitted, CellInBook, All}
 use Rattle.book.specs.declared.Shape.{Shape}
 use Rattle.book.proofs.Places.{next-entry, entry-before}
@@ -25,10 +25,10 @@ module _ {s : Shape} {l b : List ℕ} {h : Head} {end : ℕ} (f : Fitted s l b) 
   first : s .head ≡ entryAt s 0
   first = omega (arith, mul-zero (s .entry))
 
-  pub cells-begin : Passed (bookValid s l b) (s .head) end (entryAt s 0)
+  pub cells-begin : Passed (bookWordValid s l b) (s .head) end (entryAt s 0)
   cells-begin = rw (← first) passed-none
 
-  pub cells-begin-so-far : ValidSoFar (bookValid s l b) (s .head) end (entryAt s 0) true
+  pub cells-begin-so-far : ValidSoFar (bookWordValid s l b) (s .head) end (entryAt s 0) true
   cells-begin-so-far = rw (← first) so-far-none
 
   -- cell i, with the words w that were read: it has as many as a cell has, whatever cell they are tested by
@@ -44,20 +44,22 @@ module _ {s : Shape} {l b : List ℕ} {h : Head} {end : ℕ} (f : Fitted s l b) 
     within = omega (arith, entry-before s i (cells l) lt)
 
     -- the search of its own words found j
-    module _ (j : ℕ) (p : Passed (bookValid s l b) (s .head) end (entryAt s i)) (e : j ≡ firstInvalid (entryValid h c w) 0 (length w)) where
-      found : j ≡ firstInvalid (entryValid (head l) (cell l i) (wordsOf s b i)) 0 (s .entry)
+    module _ (j : ℕ) (p : Passed (bookWordValid s l b) (s .head) end (entryAt s i)) (e : j ≡ firstInvalid (entryWordValid h c w) 0 (length w)) where
+      found : j ≡ firstInvalid (entryWordValid (head l) (cell l i) (wordsOf s b i)) 0 (s .entry)
       found = rw (same, own, part, words-sized s b i cell-in-book) at e
 
-      pub cell-stop : j < s .entry → entryAt s i + j ≡ firstInvalid (bookValid s l b) (s .head) end
-      cell-stop = part-stop (bookValid s l b) (s .head) end (entryValid (head l) (cell l i) (wordsOf s b i)) (s .entry) within (valid-entry s l b i) j p found (entryAt s i + j) refl
+      pub cell-stop : j < s .entry → entryAt s i + j ≡ firstInvalid (bookWordValid s l b) (s .head) end
+      cell-stop = part-stop (bookWordValid s l b) (s .head) end (entryWordValid (head l) (cell l i) (wordsOf s b i)) (s .entry) within (valid-entry s l b i) j p found (entryAt s i + j) refl
 
-      pub cell-more : s .entry ≤ j → Passed (bookValid s l b) (s .head) end (entryAt s (i + 1))
+      pub cell-more : s .entry ≤ j → Passed (bookWordValid s l b) (s .head) end (entryAt s (i + 1))
       cell-more =
-          part-more (bookValid s l b) (s .head) end (entryValid (head l) (cell l i) (wordsOf s b i)) (s .entry) within (valid-entry s l b i) j p found (entryAt s (i + 1)) (sym (next-entry s i))
+          part-more (bookWordValid s l b) (s .head) end (entryWordValid (head l) (cell l i) (wordsOf s b i)) (s .entry) within (valid-entry s l b i) j p found
+          (entryAt s (i + 1)) (sym (next-entry s i))
 
     -- its words were tested together, by `good`
-    pub cell-so-far : (valid good : Bool) → ValidSoFar (bookValid s l b) (s .head) end (entryAt s i) valid → (good ≡ true → All (entryValid h c w) (length w)) →
-        ValidSoFar (bookValid s l b) (s .head) end (entryAt s (i + 1)) (valid && good)
-    cell-so-far valid good p all =
-        part-so-far (bookValid s l b) (s .head) end (entryValid (head l) (cell l i) (wordsOf s b i)) (s .entry) within (valid-entry s l b i) valid good (entryAt s (i + 1)) (sym (next-entry s i)) p
+    pub cell-so-far : (valid cell-valid : Bool) → ValidSoFar (bookWordValid s l b) (s .head) end (entryAt s i) valid → (cell-valid ≡ true → All (entryWordValid h c w) (length w)) →
+        ValidSoFar (bookWordValid s l b) (s .head) end (entryAt s (i + 1)) (valid && cell-valid)
+    cell-so-far valid cell-valid p all =
+        part-so-far (bookWordValid s l b) (s .head) end (entryWordValid (head l) (cell l i) (wordsOf s b i)) (s .entry) within (valid-entry s l b i) valid cell-valid
+        (entryAt s (i + 1)) (sym (next-entry s i)) p
         (λ t. rw (same, own, part, words-sized s b i cell-in-book) at (all t))

@@ -24,7 +24,7 @@ use Rattle.year.specs.declared.Entry.{Entry}
 use Rattle.year.proofs.Laws.{most-entered}
 use Rattle.book.specs.Layout.{Sized, Shaped, yearAt, entryAt, issuedAt, issuedWords, payload, planOf, joined, year, issued, entryOf, wordsOf}
 use Rattle.book.specs.Current.{current}
-use Rattle.book.specs.Check.{isYearWord, isPlanWord, isBurnedWord, isHeadWord, entryValid, capacityChecked, fitted, bookChecked, admitted}
+use Rattle.book.specs.Check.{isYearWord, isPlanWord, isBurnedWord, isHeadWord, entryWordValid, capacityChecked, fitted, bookChecked, admitted}
 use Rattle.book.specs.Sound.{Fitted, CellInBook, All, WordsValid, EntryValid, Sound}
 use Rattle.book.specs.declared.Shape.{Shape}
 use Rattle.book.proofs.Places.{entry-before}
@@ -63,8 +63,8 @@ pub burned-bound : (most before w : ℕ) → isBurnedWord most before w ≡ true
 unfolding isBurnedWord
 burned-bound most before w h = let e : leb (payload before + payload w) most ≡ true = search (and-left, and-right) in leb-true _ _ e
 
-entry-bounds : (n : ℕ) (h : Head) (c : Cell) (w : List ℕ) → 3 ≤ n → All (entryValid h c w) n → EntryValid h c (entryOf w)
-unfolding entryOf entryValid
+entry-bounds : (n : ℕ) (h : Head) (c : Cell) (w : List ℕ) → 3 ≤ n → All (entryWordValid h c w) n → EntryValid h c (entryOf w)
+unfolding entryOf entryWordValid
 entry-bounds n h c w le r =
     let most = burned-bound (mostLoss h c) (getD w 1 0) (getD w 2 0) (r .each 2 (omega arith)) in
     record { plan = plan-bound (h .horizon) (getD w 0 0) (r .each 0 (omega arith)); most = most; lost = omega (arith, most-entered h c) }

@@ -1,4 +1,4 @@
--- A book's words by cell and offset in place of number: an accepted book has each of them valid, and the other way round. Assumes nothing.
+-- A book's words by cell and offset, not by place: an accepted book has each of them valid, and the other way round. Assumes nothing.
 use mathlib.Core.Path.{_≡_, sym, ap, _∙_}
 use mathlib.Core.Bool.{Bool, true, false}
 use mathlib.Core.List.{List}
@@ -17,15 +17,15 @@ use Rattle.year.specs.Year.{mostLoss}
 use Rattle.listing.specs.Layout.{head, cells, horizon, cell}
 use Rattle.listing.specs.Check.{checked}
 use Rattle.book.specs.Layout.{Shaped, entryAt, bookSize, cellOfPlace, offsetOfPlace, wordsOf}
-use Rattle.book.specs.Check.{isPlanWord, isOxidisedWord, isBurnedWord, headValid, entryValid, bookValid, capacityChecked, fitted, bookChecked, admitted}
+use Rattle.book.specs.Check.{isPlanWord, isOxidisedWord, isBurnedWord, headWordValid, entryWordValid, bookWordValid, capacityChecked, fitted, bookChecked, admitted}
 use Rattle.book.specs.Sound.{All, WordsValid}
 use Rattle.book.specs.declared.Shape.{Shape}
 use Rattle.book.proofs.Places.{entry-before, cell-of-place, offset-of-place, cell-below, offset-below}
 
 -- a cell's words, by name
 pub entry-all : (n : ℕ) (h : Head) (c : Cell) (w : List ℕ) → isPlanWord (h .horizon) (getD w 0 0) ≡ true → isOxidisedWord (getD w 1 0) ≡ true →
-    isBurnedWord (mostLoss h c) (getD w 1 0) (getD w 2 0) ≡ true → All (entryValid h c w) n
-unfolding entryValid
+    isBurnedWord (mostLoss h c) (getD w 1 0) (getD w 2 0) ≡ true → All (entryWordValid h c w) n
+unfolding entryWordValid
 entry-all n h c w p o q =
     record {
       each =
@@ -34,25 +34,25 @@ entry-all n h c w p o q =
     }
 
 -- the first word apart: the tests of the others read no other word than theirs
-pub entry-rest : (h : Head) (c : Cell) (w v : List ℕ) → ((k : ℕ) → 0 < k → getD w k 0 ≡ getD v k 0) → (j : ℕ) → eqb j 0 ≡ false → entryValid h c w j ≡ entryValid h c v j
-unfolding entryValid
+pub entry-rest : (h : Head) (c : Cell) (w v : List ℕ) → ((k : ℕ) → 0 < k → getD w k 0 ≡ getD v k 0) → (j : ℕ) → eqb j 0 ≡ false → entryWordValid h c w j ≡ entryWordValid h c v j
+unfolding entryWordValid
 entry-rest h c w v same j e = rw (e, same 1 (omega arith), same 2 (omega arith))
 
-pub entry-same : (h : Head) (c : Cell) (w v : List ℕ) → ((k : ℕ) → getD w k 0 ≡ getD v k 0) → (j : ℕ) → entryValid h c w j ≡ entryValid h c v j
-unfolding entryValid
+pub entry-same : (h : Head) (c : Cell) (w v : List ℕ) → ((k : ℕ) → getD w k 0 ≡ getD v k 0) → (j : ℕ) → entryWordValid h c w j ≡ entryWordValid h c v j
+unfolding entryWordValid
 entry-same h c w v same j = rw (same 0, same 1, same 2)
 
 module _ (s : Shape) (l b : List ℕ) where
   -- the word at place k of the head, and the one at offset j of cell i
-  pub valid-head : (k : ℕ) → k < s .head → bookValid s l b k ≡ headValid (horizon l) b k
-  unfolding bookValid
+  pub valid-head : (k : ℕ) → k < s .head → bookWordValid s l b k ≡ headWordValid (horizon l) b k
+  unfolding bookWordValid
   valid-head k h = rw (lt-ltb k (s .head) h)
 
-  pub valid-entry : (i j : ℕ) → j < s .entry → bookValid s l b (entryAt s i + j) ≡ entryValid (head l) (cell l i) (wordsOf s b i) j
-  unfolding bookValid
+  pub valid-entry : (i j : ℕ) → j < s .entry → bookWordValid s l b (entryAt s i + j) ≡ entryWordValid (head l) (cell l i) (wordsOf s b i) j
+  unfolding bookWordValid
   valid-entry i j h = rw (le-ltb (entryAt s i + j) (s .head) (omega arith), cell-of-place s i j h, offset-of-place s i j h)
 
-  pub named : ((k : ℕ) → k < bookSize s (cells l) → bookValid s l b k ≡ true) → WordsValid s l b
+  pub named : ((k : ℕ) → k < bookSize s (cells l) → bookWordValid s l b k ≡ true) → WordsValid s l b
   named valid =
       record {
         head-words = record { each = λ k h. sym (valid-head k h) ∙ valid k (omega arith) };
@@ -60,8 +60,8 @@ module _ (s : Shape) (l b : List ℕ) where
       }
 
   -- and back
-  pub placed : Shaped s → WordsValid s l b → (k : ℕ) → k < bookSize s (cells l) → bookValid s l b k ≡ true
-  unfolding bookValid
+  pub placed : Shaped s → WordsValid s l b → (k : ℕ) → k < bookSize s (cells l) → bookWordValid s l b k ≡ true
+  unfolding bookWordValid
   placed g r k lt =
       by-test (λ (t : Bool). t ≡ true) (ltb k (s .head)) _ _
       (λ e. r .head-words .each k (ltb-true k (s .head) e))
@@ -81,7 +81,7 @@ module _ (s : Shape) (l b : List ℕ) where
 
   pub valid-checked : Shaped s → WordsValid s l b → bookChecked s l b ≡ accepted 0
   unfolding bookChecked
-  valid-checked g r = sym (need-all-is bookWord (bookValid s l b) 0 (bookSize s (cells l)) (accepted 0) zero-le (λ k p q. placed g r k q))
+  valid-checked g r = sym (need-all-is bookWord (bookWordValid s l b) 0 (bookSize s (cells l)) (accepted 0) zero-le (λ k p q. placed g r k q))
 
   -- a book that fits is refused by none of 1 to 6
   pub fitted-is : fitted s l b .done ≡ true → fitted s l b ≡ accepted 0

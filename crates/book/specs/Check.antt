@@ -39,21 +39,21 @@ isBurnedWord most before w = isKind burnedKind w && leb (payload before + payloa
 unfoldable pub isHeadWord : ℕ → ℕ → ℕ → Bool
 isHeadWord horizon k w = cond (eqb k yearAt) (isYearWord horizon w) (isIssuedWord w)
 
-abbrev pub headValid : ℕ → List ℕ → ℕ → Bool
-headValid horizon b k = isHeadWord horizon k (getD b k 0)
+abbrev pub headWordValid : ℕ → List ℕ → ℕ → Bool
+headWordValid horizon b k = isHeadWord horizon k (getD b k 0)
 
 -- the word at offset j of a cell's own words w
-unfoldable pub entryValid : Head → Cell → List ℕ → ℕ → Bool
-entryValid h c w j =
+unfoldable pub entryWordValid : Head → Cell → List ℕ → ℕ → Bool
+entryWordValid h c w j =
     cond (eqb j 0) (isPlanWord (h .horizon) (getD w 0 0))
     (cond (eqb j 1) (isOxidisedWord (getD w 1 0))
     (isBurnedWord (mostLoss h c) (getD w 1 0) (getD w 2 0)))
 
 -- the word at place k of the book
-unfoldable pub bookValid : Shape → List ℕ → List ℕ → ℕ → Bool
-bookValid s l b k =
-    cond (ltb k (s .head)) (headValid (horizon l) b k)
-    (entryValid (head l) (cell l (cellOfPlace s k)) (wordsOf s b (cellOfPlace s k)) (offsetOfPlace s k))
+unfoldable pub bookWordValid : Shape → List ℕ → List ℕ → ℕ → Bool
+bookWordValid s l b k =
+    cond (ltb k (s .head)) (headWordValid (horizon l) b k)
+    (entryWordValid (head l) (cell l (cellOfPlace s k)) (wordsOf s b (cellOfPlace s k)) (offsetOfPlace s k))
 
 -- number 6: a book too short for its cells
 unfoldable pub capacityChecked : Shape → List ℕ → List ℕ → Answer
@@ -65,7 +65,7 @@ fitted s l b = after (checked l) (capacityChecked s l b)
 
 -- number 8: no invalid word in the book
 unfoldable pub bookChecked : Shape → List ℕ → List ℕ → Answer
-bookChecked s l b = needAll bookWord (bookValid s l b) 0 (bookSize s (cells l)) (accepted 0)
+bookChecked s l b = needAll bookWord (bookWordValid s l b) 0 (bookSize s (cells l)) (accepted 0)
 
 -- numbers 1 to 6 and 8, with which every call on an open book but a closing begins: that one tests its lines before 8
 unfoldable pub admitted : Shape → List ℕ → List ℕ → Answer

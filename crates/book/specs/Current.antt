@@ -30,8 +30,8 @@ wordsOf = layout.wordsOf current
 abbrev pub entry : List ℕ → ℕ → Entry
 entry = layout.entry current
 
-abbrev pub kgTo : List ℕ → List ℕ → ℕ → ℕ
-kgTo = held.kgTo current
+abbrev pub kgToDate : List ℕ → List ℕ → ℕ → ℕ
+kgToDate = held.kgToDate current
 
 abbrev pub Holds : List ℕ → List ℕ → ℕ → ℕ → (ℕ → Entry) → Type 0
 Holds = held.Holds current

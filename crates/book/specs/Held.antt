@@ -12,8 +12,8 @@ use Rattle.book.specs.Check.{admitted}
 use Rattle.book.specs.declared.Shape.{Shape}
 
 -- the kg to date of cell i
-abbrev pub kgTo : Shape → List ℕ → List ℕ → ℕ → ℕ
-kgTo s l b i = kgOf (head l) (cell l i) (entry s b i)
+abbrev pub kgToDate : Shape → List ℕ → List ℕ → ℕ → ℕ
+kgToDate s l b i = kgOf (head l) (cell l i) (entry s b i)
 
 -- the words of entry e i
 abbrev pub heldAt : Shape → (ℕ → Entry) → ℕ → List ℕ

@@ -12,7 +12,7 @@ use Rattle.year.specs.Year.{mostLoss}
 use Rattle.year.specs.Fit.{Fit}
 use Rattle.year.specs.declared.Entry.{Entry}
 use Rattle.book.specs.Layout.{Sized, Shaped, entryAt, bookSize, issuedWords, year, issued, entryOf, wordsOf, entry}
-use Rattle.book.specs.Check.{headValid, entryValid}
+use Rattle.book.specs.Check.{headWordValid, entryWordValid}
 use Rattle.book.specs.declared.Shape.{Shape}
 
 -- an accepted listing, and space for its book
@@ -35,8 +35,8 @@ pub record All (valid : ℕ → Bool) (n : ℕ) : Type 0 where
 
 -- all words of the book
 pub record WordsValid (s : Shape) (l b : List ℕ) : Type 0 where
-  pub head-words : All (headValid (horizon l) b) (s .head)
-  pub entry-words : (i : ℕ) → i < cells l → All (entryValid (head l) (cell l i) (wordsOf s b i)) (s .entry)
+  pub head-words : All (headWordValid (horizon l) b) (s .head)
+  pub entry-words : (i : ℕ) → i < cells l → All (entryWordValid (head l) (cell l i) (wordsOf s b i)) (s .entry)
 
 -- ---- what they hold
 

@@ -12,7 +12,7 @@ ghost use Rattle.listing.specs.Accepted.{Accepted};
 ghost use Rattle.year.specs.Year.{kgOf};
 ghost use Rattle.book.specs.Layout.{Sized, Shaped, yearAt, issuedWords, entryAt, bookSize, joined, year, issued, entryOf, wordsOf, entry, withYear, stored};
 ghost use Rattle.book.specs.Layout.{withIssued, planWord, withPlan, heldWords};
-ghost use Rattle.book.specs.Check.{isYearWord, isPlanWord, isBurnedWord, isHeadWord, headValid, entryValid, bookValid, capacityChecked, fitted, bookChecked, admitted};
+ghost use Rattle.book.specs.Check.{isYearWord, isPlanWord, isBurnedWord, isHeadWord, headWordValid, entryWordValid, bookWordValid, capacityChecked, fitted, bookChecked, admitted};
 ghost use Rattle.book.specs.Sound.{Fitted, CellInBook, All, Storable, CellWordsValid};
 use fields::Cell;
 use fields::Head;
@@ -53,7 +53,7 @@ pub const BURNED_LINE_KIND: u32 = 14;
 
 pub const KG_LINE_KIND: u32 = 15;
 
-// Where the current year is, and from where on the tonnes issued do.
+// Where the current year is, and where the tonnes issued begin.
 const YEAR_AT: usize = 0;
 
 const ISSUED_AT: usize = 1;
@@ -79,13 +79,13 @@ pub fn words_of(s: Shape, book: &[u32], i: usize) -> &[u32]
 fn is_year_word(w: u32, horizon: u32) -> bool
     ensures { λ r. ⌜ r ≡ isYearWord horizon w ⌝ }
 {
-    words::is_kind(w, YEAR_KIND) & words::between(w, 27, 0, 0, horizon)
+    words::is_kind(w, YEAR_KIND) & words::bits_within(w, 27, 0, 0, horizon)
 }
 
 fn is_plan_word(w: u32, horizon: u32) -> bool
     ensures { λ r. ⌜ r ≡ isPlanWord horizon w ⌝ }
 {
-    words::is_kind(w, PLAN_KIND) & (bits(w, 27, 9) == 0) & words::between(w, 7, 0, 0, horizon)
+    words::is_kind(w, PLAN_KIND) & (bits(w, 27, 9) == 0) & words::bits_within(w, 7, 0, 0, horizon)
 }
 
 // Whether a cell's word of mm burned is valid, behind its word of mm oxidised: not more is lost than
@@ -109,7 +109,7 @@ fn is_head_word(w: u32, k: usize, horizon: u32) -> bool
 // The first word of a book's head that is invalid; where there is none, the head's size.
 fn first_invalid_head_word(s: Shape, h: Head, book: &[u32]) -> usize
     requires { ⌜ s .head ≤ length (now book) ⌝ }
-    ensures { λ r. ⌜ r ≡ firstInvalid (headValid (h .horizon) (now (book .entry))) 0 (s .head) ⌝ }
+    ensures { λ r. ⌜ r ≡ firstInvalid (headWordValid (h .horizon) (now (book .entry))) 0 (s .head) ⌝ }
 {
     let mut k: usize = 0;
     while k < s.head {
@@ -124,7 +124,7 @@ fn first_invalid_head_word(s: Shape, h: Head, book: &[u32]) -> usize
 // Whether all of a cell's own words are valid: without a branch for each, since most are.
 fn entry_valid(h: Head, c: Cell, entry: &[u32]) -> bool
     requires { ⌜ Sized (length (now entry)) ⌝ }
-    ensures { λ r. ⌜ (r ≡ true → All (entryValid h c (now (entry .entry))) (length (now (entry .entry)))) ⌝ }
+    ensures { λ r. ⌜ (r ≡ true → All (entryWordValid h c (now (entry .entry))) (length (now (entry .entry)))) ⌝ }
 {
     let plan = is_plan_word(entry[0], h.horizon);
     let oxidised = words::is_kind(entry[1], OXIDISED_KIND);
@@ -134,7 +134,7 @@ fn entry_valid(h: Head, c: Cell, entry: &[u32]) -> bool
 // The first of a cell's own words that is invalid; where there is none, their number.
 fn first_invalid_entry_word(h: Head, c: Cell, entry: &[u32]) -> usize
     requires { ⌜ Sized (length (now entry)) ⌝ }
-    ensures { λ r. ⌜ r ≡ firstInvalid (entryValid h c (now (entry .entry))) 0 (length (now (entry .entry))) ⌝ }
+    ensures { λ r. ⌜ r ≡ firstInvalid (entryWordValid h c (now (entry .entry))) 0 (length (now (entry .entry))) ⌝ }
 {
     if !is_plan_word(entry[0], h.horizon) {
         return 0;
@@ -151,7 +151,7 @@ fn first_invalid_entry_word(h: Head, c: Cell, entry: &[u32]) -> usize
 // Whether the words of all cells are valid, without a branch for each cell.
 fn cells_valid(s: Shape, listing: &[u32], h: Head, book: &[u32], end: usize) -> bool
     requires { ⌜ Fitted s (now listing) (now book) × (h ≡ head (now listing)) × (end ≡ bookSize s (cells (now listing))) ⌝ }
-    ensures { λ r. ⌜ (r ≡ true → end ≡ firstInvalid (bookValid s (now (listing .entry)) (now (book .entry))) (s .head) end) ⌝ }
+    ensures { λ r. ⌜ (r ≡ true → end ≡ firstInvalid (bookWordValid s (now (listing .entry)) (now (book .entry))) (s .head) end) ⌝ }
 {
     let cells = h.cells as usize;
     let mut valid = true;
@@ -166,7 +166,7 @@ fn cells_valid(s: Shape, listing: &[u32], h: Head, book: &[u32], end: usize) -> 
 // The first word of the cells that is invalid; where there is none, `end`.
 fn first_invalid_cell_word(s: Shape, listing: &[u32], h: Head, book: &[u32], end: usize) -> usize
     requires { ⌜ Fitted s (now listing) (now book) × (h ≡ head (now listing)) × (end ≡ bookSize s (cells (now listing))) ⌝ }
-    ensures { λ r. ⌜ r ≡ firstInvalid (bookValid s (now (listing .entry)) (now (book .entry))) (s .head) end ⌝ }
+    ensures { λ r. ⌜ r ≡ firstInvalid (bookWordValid s (now (listing .entry)) (now (book .entry))) (s .head) end ⌝ }
 {
     let cells = h.cells as usize;
     let mut i: usize = 0;
@@ -183,7 +183,7 @@ fn first_invalid_cell_word(s: Shape, listing: &[u32], h: Head, book: &[u32], end
 // The first word of a book that is invalid; where there is none, `end`.
 fn first_invalid_word(s: Shape, listing: &[u32], h: Head, book: &[u32], end: usize) -> usize
     requires { ⌜ Fitted s (now listing) (now book) × (h ≡ head (now listing)) × (end ≡ bookSize s (cells (now listing))) ⌝ }
-    ensures { λ r. ⌜ r ≡ firstInvalid (bookValid s (now (listing .entry)) (now (book .entry))) 0 end ⌝ }
+    ensures { λ r. ⌜ r ≡ firstInvalid (bookWordValid s (now (listing .entry)) (now (book .entry))) 0 end ⌝ }
 {
     let k = first_invalid_head_word(s, h, book);
     if k < s.head {

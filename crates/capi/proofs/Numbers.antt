@@ -39,7 +39,7 @@ searched n place end next h = need-none-either Numbered n place end next (refusa
 then : (before next : Answer) → Numbered before → Numbered next → Numbered (after before next)
 then = after-either Numbered
 
--- ---- the ladder of tests
+-- ---- the chain of tests
 
 listing-numbered : (l : List ℕ) → Numbered (checked l)
 listing-numbered = checked-either Numbered (λ n k low _. refusal n k low) (none 0)

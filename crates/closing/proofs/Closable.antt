@@ -59,7 +59,7 @@ module _ {l : List ℕ} {h : Head} {c : Cell} {e : Entry} {t : ℕ} (g : CellYea
   pub inactive-loss : inactive h c e t ≡ true → noLoss ≡ yearLoss (head l) (row l) c e t
   inactive-loss q = sym (loss-inactive (head l) (row l) c e t (rw (g .head-is) at q))
 
-  -- where it does not, its table has a row for its age
+  -- where it is active, its table has a row for its age
   module _ (q : inactive h c e t ≡ false) where
     active-is : inactive (head l) c e t ≡ false
     active-is = rw (g .head-is) at q

@@ -1,4 +1,4 @@
--- What the book and the lines say that a closing leaves. Assumes nothing.
+-- What book and lines hold after a closing. Assumes nothing.
 use mathlib.Core.Path.{_≡_, refl, sym, ap, _∙_}
 use mathlib.Core.List.{List}
 use Prim.Native.Nat.{ℕ, zero-le, _+_, _*_, _^_, _≤_, _<_}
@@ -36,9 +36,9 @@ module _ (l b : List ℕ) (capacity : bookSize (cells l) ≤ length b) where
   pub after-head : (l′ b′ : List ℕ) → bookSize (cells l′) ≤ length b′ → ((k : ℕ) → k < current .head → getD b k 0 ≡ getD b′ k 0) → (k : ℕ) → k < current .head →
       getD (bookAfter l b) k 0 ≡ getD (bookAfter l′ b′) k 0
   unfolding bookAfter
-  after-head l′ b′ room′ same k lt =
+  after-head l′ b′ capacity′ same k lt =
       let filled-length = length-filled (current .entry) b (current .head) (closedWords l b) (closed-sized l b) (omega arith) (cells l) capacity in
-      let filled-length′ = length-filled (current .entry) b′ (current .head) (closedWords l′ b′) (closed-sized l′ b′) (omega arith) (cells l′) room′ in
+      let filled-length′ = length-filled (current .entry) b′ (current .head) (closedWords l′ b′) (closed-sized l′ b′) (omega arith) (cells l′) capacity′ in
       rw (year-by current b b′ (omega arith) same)
       (stored-same yearKind yearAt 1 _ k _ _ (omega arith) (omega arith)
       (λ beside.

@@ -1,4 +1,4 @@
--- Document 01, "Book and calls": what a closing of listing l and book b returns and writes. Every cell is worked out from the book as it
+-- Document 01, "Book and calls": what a closing of listing l and book b answers and writes. Every cell is worked out from the book as it
 -- was at the start.
 use mathlib.Core.Path.{_≡_}
 use Prim.Native.Nat.{ℕ, _+_, _-_, _*_, _^_, _≤_, _<_}

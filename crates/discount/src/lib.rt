@@ -18,7 +18,7 @@ const MOST_POOLS: usize = 5;
 const MOST_VALUE: u32 = 20_000; // of a value, in tenths of t CO2e per ha
 
 // The sums of two lists of stocks, where no value of the four lists is too large.
-struct Stocks {
+struct StockTotals {
     valid: bool,
     first: u64,
     second: u64,
@@ -45,7 +45,7 @@ fn distance(x: u64, y: u64) -> u64
 }
 
 // The sum of a list's squares.
-fn squared(widths: &[u32]) -> u64
+fn sum_of_squares(widths: &[u32]) -> u64
     requires { ⌜ Bounded (now widths) ⌝ }
     ensures { λ r. ⌜ (r ≡ weighted (now (widths .entry)) (now (widths .entry))) × (r ≤ mostSquares) ⌝ }
 {
@@ -58,7 +58,7 @@ fn stock_sums(
     second_widths: &[u32],
     first_stocks: &[u32],
     second_stocks: &[u32],
-) -> Stocks
+) -> StockTotals
     requires { ⌜ lengthsValid (length (now «first_widths»)) (length (now «second_widths»)) (length (now «first_stocks»)) (length (now «second_stocks»)) ≡ true ⌝ }
     ensures { λ r. ⌜ StockSums (now («first_widths» .entry)) (now («second_widths» .entry)) (now («first_stocks» .entry)) (now («second_stocks» .entry)) (r .valid) (r .first) (r .second) ⌝ }
 {
@@ -69,7 +69,7 @@ fn stock_sums(
         let a = first_stocks[i];
         let b = second_stocks[i];
         if !pool_valid(first_widths[i], second_widths[i], a, b) {
-            return Stocks {
+            return StockTotals {
                 valid: false,
                 first,
                 second,
@@ -79,7 +79,7 @@ fn stock_sums(
         second += b as u64;
         i += 1;
     }
-    Stocks {
+    StockTotals {
         valid: true,
         first,
         second,
@@ -177,7 +177,7 @@ pub fn discount(
     if !stocks.valid {
         return refuse_value(first_widths, second_widths, first_stocks, second_stocks);
     }
-    let q = squared(first_widths) + squared(second_widths);
+    let q = sum_of_squares(first_widths) + sum_of_squares(second_widths);
     let d = distance(stocks.first, stocks.second);
     Amount::Value(factor(q, d))
 }

@@ -96,5 +96,5 @@ cellOf w v =
     }
 
 -- a term's word
-unfoldable pub yearlyTerm : ℕ → YearlyTerm
-yearlyTerm w = record { term = termOf w; year = yearOf w; tonnes = tonnesOf w }
+unfoldable pub yearlyTermOf : ℕ → YearlyTerm
+yearlyTermOf w = record { term = termOf w; year = yearOf w; tonnes = tonnesOf w }

@@ -1,11 +1,11 @@
 // The words of a project's listing, each by itself: which are valid, and their fields.
 ghost use mathlib.Core.Path.{_≡_};
 ghost use Rattle.words.specs.Bits.{isKind};
-ghost use Rattle.fields.specs.Fields.{headOf, rowOf, cellOf, yearlyTerm};
+ghost use Rattle.fields.specs.Fields.{headOf, rowOf, cellOf, yearlyTermOf};
 ghost use Rattle.fields.specs.Words.{isSizeWord, isFigureWord, isTableWord, isDepthWord, isAreaWord, isTermWord, isAbove};
 ghost use Rattle.fields.specs.Valid.{termOrder};
-use words::between;
 use words::bits;
+use words::bits_within;
 use words::is_kind;
 use words::signed_bits;
 use words::word;
@@ -34,7 +34,7 @@ const MOST_DENSITY: u32 = 2_400;
 // The highest term.
 const MOST_TERM: u32 = 8;
 
-// The figures of the project as a whole. The guard and the thickness, the least of peat, are in mm.
+// The figures of the project as a whole. The guard and the least thickness of peat are in mm.
 pub struct Head {
     pub cells: u32,
     pub strata: u32,
@@ -74,9 +74,9 @@ pub fn is_size_word(w: u32) -> bool
     ensures { λ r. ⌜ r ≡ isSizeWord w ⌝ }
 {
     is_kind(w, 1)
-        & between(w, 27, 16, 1, MOST_CELLS)
-        & between(w, 15, 8, 1, MOST_STRATA)
-        & between(w, 7, 0, 1, MOST_HORIZON)
+        & bits_within(w, 27, 16, 1, MOST_CELLS)
+        & bits_within(w, 15, 8, 1, MOST_STRATA)
+        & bits_within(w, 7, 0, 1, MOST_HORIZON)
 }
 
 // Whether w is valid as word 1.
@@ -85,9 +85,9 @@ pub fn is_figure_word(w: u32) -> bool
 {
     is_kind(w, 2)
         & (bits(w, 27, 23) == 0)
-        & between(w, 22, 16, 0, MOST_BUFFER)
-        & between(w, 15, 8, 1, MOST_WARMING)
-        & between(w, 7, 0, 0, MOST_METHANE)
+        & bits_within(w, 22, 16, 0, MOST_BUFFER)
+        & bits_within(w, 15, 8, 1, MOST_WARMING)
+        & bits_within(w, 7, 0, 0, MOST_METHANE)
 }
 
 // Whether w is valid as a word of a table.
@@ -97,7 +97,7 @@ pub fn is_table_word(w: u32) -> bool
     is_kind(w, 3)
 }
 
-// The bits in which w is not the word of a table with all values 0: bits 31 to 28 are 0 where w is
+// The bits in which w differs from the word of a table with all values 0: bits 31 to 28 are 0 where w is
 // a word of a table, so that many words can be joined by `|` and tested once.
 pub fn table_fault(w: u32) -> u32
     ensures { λ r. ⌜ isKind 0 r ≡ isTableWord w ⌝ }
@@ -111,8 +111,8 @@ pub fn is_depth_word(w: u32, strata: u32, horizon: u32) -> bool
 {
     is_kind(w, 4)
         & (bits(w, 27, 24) < strata)
-        & between(w, 23, 16, 0, horizon)
-        & between(w, 15, 0, 0, MOST_DEPTH)
+        & bits_within(w, 23, 16, 0, horizon)
+        & bits_within(w, 15, 0, 0, MOST_DEPTH)
 }
 
 // Whether w is valid as a cell's second word.
@@ -121,8 +121,8 @@ pub fn is_area_word(w: u32) -> bool
 {
     is_kind(w, 5)
         & (bits(w, 27, 26) == 0)
-        & between(w, 25, 12, 1, MOST_AREA)
-        & between(w, 11, 0, 1, MOST_DENSITY)
+        & bits_within(w, 25, 12, 1, MOST_AREA)
+        & bits_within(w, 11, 0, 1, MOST_DENSITY)
 }
 
 // Whether w is valid as a term.
@@ -130,8 +130,8 @@ pub fn is_term_word(w: u32, horizon: u32) -> bool
     ensures { λ r. ⌜ r ≡ isTermWord horizon w ⌝ }
 {
     is_kind(w, 6)
-        & ((bits(w, 27, 24) == 1) | between(w, 27, 24, 3, MOST_TERM))
-        & between(w, 23, 17, 1, horizon)
+        & ((bits(w, 27, 24) == 1) | bits_within(w, 27, 24, 3, MOST_TERM))
+        & bits_within(w, 23, 17, 1, horizon)
 }
 
 // A term's place in the order of terms: by year, then by term, which has 4 bits.
@@ -189,8 +189,8 @@ pub fn cell_of(w: u32, v: u32) -> Cell
 }
 
 // The figures of a term's word.
-pub fn term_of(w: u32) -> YearlyTerm
-    ensures { λ r. ⌜ r ≡ yearlyTerm w ⌝ }
+pub fn yearly_term_of(w: u32) -> YearlyTerm
+    ensures { λ r. ⌜ r ≡ yearlyTermOf w ⌝ }
 {
     YearlyTerm {
         term: bits(w, 27, 24),

@@ -22,7 +22,7 @@ use Rattle.book.proofs.Sound.{shaped, fitted-accepted}
 use Rattle.opening.specs.Opening.{openBook}
 use Rattle.closing.specs.Closing.{bookAfter, closeAnswer}
 use Rattle.closing.proofs.Closable.{closable-before, closes}
-use Rattle.years.specs.Years.{closedFor}
+use Rattle.years.specs.Years.{afterClosings}
 use Rattle.years.proofs.Held.{every-years}
 use Rattle.ledger.specs.Calls.{openEffect, closeEffect}
 use Rattle.ledger.proofs.After.{closed-line}
@@ -34,7 +34,7 @@ use Rattle.forecast.specs.Closings.{Closes, EveryYear}
 
 module _ (l b : List ℕ) (fits : fitted l b .done ≡ true) where
   abbrev after : ℕ → List ℕ
-  after = closedFor l (openBook l b)
+  after = afterClosings l (openBook l b)
 
   year-done : (y : List ℕ) → lineWords * cells l ≤ length y → (t : ℕ) → t < horizon l → closeEffect l (after t) y .answer .done ≡ true
   unfolding closeEffect
@@ -44,7 +44,7 @@ module _ (l b : List ℕ) (fits : fitted l b .done ≡ true) where
 
   -- x is an output whose numbers are the years' kg
   year-closes : (x : List ℕ) → ((t : ℕ) → t < horizon l → getD x t 0 ≡ yearKg l (after t)) → (y : List ℕ) → lineWords * cells l ≤ length y → (t : ℕ) → t < horizon l → Closes l (openBook l b) x t y
-  unfolding closeEffect closedFor yearKg
+  unfolding closeEffect afterClosings yearKg
   year-closes x number y capacity t lt =
       let done = year-done y capacity t lt in
       record {
@@ -54,11 +54,11 @@ module _ (l b : List ℕ) (fits : fitted l b .done ≡ true) where
       }
 
 -- the number of year t + 1
-output-number : (l b x : List ℕ) (t : ℕ) → t < horizon l → getD (outputAfter l b x) t 0 ≡ yearKg l (closedFor l b t)
+output-number : (l b x : List ℕ) (t : ℕ) → t < horizon l → getD (outputAfter l b x) t 0 ≡ yearKg l (afterClosings l b t)
 unfolding outputAfter
 output-number l b x t lt =
     let e : 0 + 1 * t + 0 ≡ t = omega arith in
-    rw e at (filled-word 1 x 0 (λ t. yearKg l (closedFor l b t) ∷ []) (λ t. refl) zero-le (horizon l) t 0 lt (omega arith))
+    rw e at (filled-word 1 x 0 (λ t. yearKg l (afterClosings l b t) ∷ []) (λ t. refl) zero-le (horizon l) t 0 lt (omega arith))
 
 -- what open leaves where it is accepted, and what the forecast does
 opened-book : (l b : List ℕ) → fitted l b .done ≡ true → openEffect l b .book ≡ openBook l b
@@ -66,9 +66,9 @@ unfolding openEffect
 opened-book l b fits = written-new (fitted l b) b (openBook l b) fits
 
 module _ (l b x : List ℕ) (h : forecastEffect l b x .answer .done ≡ true) where
-  forecast-book : forecastEffect l b x .book ≡ closedFor l (openBook l b) (horizon l)
+  forecast-book : forecastEffect l b x .book ≡ afterClosings l (openBook l b) (horizon l)
   unfolding forecastEffect closedBook
-  forecast-book = written-new (forecastAnswer l b (length x)) b (closedFor l (openBook l b) (horizon l)) h
+  forecast-book = written-new (forecastAnswer l b (length x)) b (afterClosings l (openBook l b) (horizon l)) h
 
   forecast-output : forecastEffect l b x .output ≡ outputAfter l (openBook l b) x
   unfolding forecastEffect

@@ -10,18 +10,18 @@ use Rattle.listing.specs.Layout.{horizon}
 use Rattle.book.specs.Current.{current}
 use Rattle.book.proofs.Sound.{shaped, fitted-accepted}
 use Rattle.opening.specs.Opening.{openBook}
-use Rattle.years.specs.Years.{entriesAfter, closedFor}
-use Rattle.ledger.specs.Calls.{Beyond}
+use Rattle.years.specs.Years.{entriesAfter, afterClosings}
+use Rattle.ledger.specs.Calls.{UntouchedFrom}
 use Rattle.ledger.proofs.Untouched.{committed, filled-beyond, new-beyond}
 use Rattle.forecast.specs.Forecast.{yearKg, closedBook, outputAfter, outputChecked, forecastAnswer, forecastEffect}
 use Rattle.forecast.specs.Closings.{EveryForecastUntouched}
 use Rattle.forecast.proofs.Running.{ran-years}
 
-output-untouched : (l b x : List ℕ) → horizon l ≤ length x → Beyond (horizon l) x (outputAfter l b x)
+output-untouched : (l b x : List ℕ) → horizon l ≤ length x → UntouchedFrom (horizon l) x (outputAfter l b x)
 unfolding outputAfter
 output-untouched l b x capacity =
     let all : 0 + 1 * horizon l ≡ horizon l = omega arith in
-    rw all at (filled-beyond 1 x 0 (λ t. yearKg l (closedFor l b t) ∷ []) (horizon l) (λ t. refl) (omega arith))
+    rw all at (filled-beyond 1 x 0 (λ t. yearKg l (afterClosings l b t) ∷ []) (horizon l) (λ t. refl) (omega arith))
 
 pub every-forecast-untouched : EveryForecastUntouched
 unfolding forecastEffect forecastAnswer outputChecked

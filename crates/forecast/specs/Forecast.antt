@@ -13,7 +13,7 @@ use Rattle.listing.specs.Layout.{cells, horizon}
 use Rattle.book.specs.Current.{fitted}
 use Rattle.opening.specs.Opening.{openBook}
 use Rattle.closing.specs.Closing.{loss}
-use Rattle.years.specs.Years.{closedFor}
+use Rattle.years.specs.Years.{afterClosings}
 
 -- the kg over all cells of the closing of b
 unfoldable pub yearKg : List ℕ → List ℕ → ℕ
@@ -21,10 +21,10 @@ yearKg l b = sumBelow (λ i. loss l b i .kg) (cells l)
 
 -- the book after every year, and the output: year t + 1 at index t, and the numbers beyond the horizon untouched
 unfoldable pub closedBook : List ℕ → List ℕ → List ℕ
-closedBook l b = closedFor l b (horizon l)
+closedBook l b = afterClosings l b (horizon l)
 
 unfoldable pub outputAfter : List ℕ → List ℕ → List ℕ → List ℕ
-outputAfter l b x = filled 1 x 0 (λ t. yearKg l (closedFor l b t) ∷ []) (horizon l)
+outputAfter l b x = filled 1 x 0 (λ t. yearKg l (afterClosings l b t) ∷ []) (horizon l)
 
 -- number 15: output below horizon numbers, place its length
 unfoldable pub outputChecked : List ℕ → ℕ → Answer

@@ -10,13 +10,13 @@ use Rattle.book.specs.Current.{current, admitted}
 use Rattle.ledger.specs.Calls.{openEffect, figuresOf, statementAnswer, Call}
 use Rattle.ledger.proofs.AdmittedCell.{cell-admitted}
 use Rattle.ledger.proofs.After.{opened-holds}
-use Rattle.history.specs.History.{State, next, run, BroughtForward, broughtByOpen, yearIn, planIn, sumOf, issuedIn, highest, EachClosing, dOf, EveryUnconverted}
-use Rattle.history.specs.History.{Claims, EveryList, BroughtBy, EveryListFrom}
+use Rattle.history.specs.History.{State, next, run, BroughtForward, broughtForwardByOpen, yearIn, planIn, sumOf, issuedIn, highest, EachClosing, dOf, EveryUnconverted}
+use Rattle.history.specs.History.{Claims, EveryList, IsBroughtForward, EveryListFrom}
 use Rattle.book.proofs.Sound.{shaped, sound}
 use Rattle.history.proofs.Invariant.{Inv, kept-step}
 
 -- before the first call
-kept-start : (l b : List ℕ) (s : BroughtForward) → admitted l b .done ≡ true → BroughtBy l b s → Inv l s b []
+kept-start : (l b : List ℕ) (s : BroughtForward) → admitted l b .done ≡ true → IsBroughtForward l b s → Inv l s b []
 unfolding yearIn planIn sumOf issuedIn highest EachClosing
 kept-start l b s admits brought =
     record {
@@ -56,11 +56,11 @@ claims l s state v =
 pub every-list-from : EveryListFrom
 every-list-from l b s admits brought calls = claims l s _ (kept-run l s (record { book = b; history = [] }) calls (kept-start l b s admits brought))
 
--- an opened book brings nothing, and the listing's plan years
+-- an opened book brings nothing forward, and the listing's plan years
 pub every-list : EveryList
 every-list l b done =
     let holds = opened-holds l b done in
-    every-list-from l (openEffect l b .book) (broughtByOpen l) (holds .admits)
+    every-list-from l (openEffect l b .book) (broughtForwardByOpen l) (holds .admits)
     (record {
       year-is = holds .year-is;
       issued-is = holds .issued-is;
@@ -70,7 +70,7 @@ every-list l b done =
       kg-is = λ i p. sym (emission-none (head l) (cell l i));
     })
 
--- what is no claim of a list: d of a cell that is not converted
+-- beside the claims: d of a cell that is not converted
 pub every-unconverted : EveryUnconverted
 unfolding dOf
 every-unconverted l s before i e = rw e

@@ -13,14 +13,14 @@ use Rattle.year.specs.declared.Entry.{Entry}
 use Rattle.year.specs.Year.{emission}
 use Rattle.year.specs.Year.{planned, marked}
 use Rattle.year.proofs.Laws.{year-kg, year-dry}
-use Rattle.book.specs.Current.{issued, entry, kgTo, admitted, Holds}
+use Rattle.book.specs.Current.{issued, entry, kgToDate, admitted, Holds}
 use Rattle.book.specs.Layout.{year}
 use Rattle.balance.specs.Balance.{balanceIn}
 use Rattle.balance.proofs.Bounds.{balance-same, issue-max}
 use Rattle.closing.specs.Closing.{loss}
 use Rattle.ledger.specs.Calls.{closeEffect, replanEffect, withdrawEffect, issueEffect, Call, Close, Replan, Withdraw, Issue, callEffect}
 use Rattle.ledger.proofs.After.{closed-holds, closed-line, replanned-holds, withdrawn-holds, issued-holds, issued-value, call-refused}
-use Rattle.history.specs.History.{eventOf, step, Event, Lines, Planned, Paid, Nothing, History, BroughtForward, yearIn, planIn, sumOf, oxidisedIn, burnedIn, kgIn}
+use Rattle.history.specs.History.{eventOf, step, Event, Lines, Replanned, Issued, Nothing, History, BroughtForward, yearIn, planIn, sumOf, oxidisedIn, burnedIn, kgIn}
 use Rattle.history.specs.History.{issuedIn, balanceAt, highest, EachClosing, dOf, StayedDry}
 
 -- the book b is admitted and says what the history h says, and the claims hold of h. A record type with no name: at an event that
@@ -45,7 +45,7 @@ plan-of true x y u w e f = e
 plan-of false x y u w e f = f
 
 module _ (l : List ℕ) (s : BroughtForward) (b : List ℕ) (h : History) (v : Inv l s b h) where
-  -- ---- a call that returns nothing and leaves the book
+  -- ---- a call that gives nothing and leaves the book
   kept-nothing : (b′ : List ℕ) → b′ ≡ b → Inv l s b′ (Nothing ∷ h)
   unfolding yearIn planIn sumOf issuedIn highest EachClosing
   kept-nothing b′ e = rw e v
@@ -87,7 +87,7 @@ module _ (l : List ℕ) (s : BroughtForward) (b : List ℕ) (h : History) (v : I
     same-field f keeps j p =
         ap f (holds .entry-is j p) ∙ by-test (λ (e : Entry). f e ≡ f (entry b j)) (eqb i j) (change (entry b j)) (entry b j) (λ here. keeps (entry b j)) (λ other. refl)
 
-  kept-replan : (i y : ℕ) → replanEffect l b i y .answer .done ≡ true → Inv l s (replanEffect l b i y .book) (Planned i y ∷ h)
+  kept-replan : (i y : ℕ) → replanEffect l b i y .answer .done ≡ true → Inv l s (replanEffect l b i y .book) (Replanned i y ∷ h)
   unfolding yearIn planIn sumOf issuedIn highest EachClosing
   kept-replan i y done =
       let holds = replanned-holds l b i y done in
@@ -123,9 +123,9 @@ module _ (l : List ℕ) (s : BroughtForward) (b : List ℕ) (h : History) (v : I
 
   -- ---- an issue
   balance-is : balanceIn l b ≡ balanceAt l s h
-  balance-is = balance-same l (year b) (yearIn s h) (kgTo l b) (kgIn s h) (v .year-is) (λ i p. rw (v .kilograms i p, v .oxidised-is i p, v .burned-is i p))
+  balance-is = balance-same l (year b) (yearIn s h) (kgToDate l b) (kgIn s h) (v .year-is) (λ i p. rw (v .kilograms i p, v .oxidised-is i p, v .burned-is i p))
 
-  kept-issue : issueEffect l b .answer .done ≡ true → Inv l s (issueEffect l b .book) (Paid (issueEffect l b .answer .value) ∷ h)
+  kept-issue : issueEffect l b .answer .done ≡ true → Inv l s (issueEffect l b .book) (Issued (issueEffect l b .answer .value) ∷ h)
   unfolding yearIn planIn sumOf issuedIn highest EachClosing
   kept-issue done =
       let holds = issued-holds l b done in
@@ -141,7 +141,7 @@ module _ (l : List ℕ) (s : BroughtForward) (b : List ℕ) (h : History) (v : I
         top = omega (arith, issued-value l b done, ap atLeast0 balance-is, v .top, v .issued-is, issue-max (balanceIn l b) (issued b));
       }
 
-  -- ---- every call: what an accepted one returns is kept, and a refused one returns nothing
+  -- ---- every call: what an accepted one gives is kept, and a refused one gives nothing
   pub kept-step : (c : Call) → Inv l s (step l b c .book) (step l b c .event ∷ h)
   kept-step c =
       by-test (λ (e : Event). Inv l s (callEffect l b c .book) (e ∷ h)) (callEffect l b c .answer .done) (eventOf c (callEffect l b c)) Nothing (kept c)

@@ -1,4 +1,4 @@
--- What a book holds after each call, and what a closing returns. Assumes nothing.
+-- What a book holds after each call, and what a closing writes. Assumes nothing.
 use mathlib.Core.Path.{_≡_, refl, sym, ap, _∙_}
 use mathlib.Core.Bool.{Bool, true, false, cond}
 use mathlib.Core.List.{List}

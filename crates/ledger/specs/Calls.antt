@@ -10,7 +10,7 @@ use Rattle.words.specs.Effect.{Effect, commit, commitBoth}
 use Rattle.words.specs.Refusals.{noSuchCell, cellWithdrawn, cellConverted, yearNotAhead}
 use Rattle.listing.specs.Layout.{cells, horizon, cell}
 use Rattle.year.specs.Year.{unconverted, remaining, planned, marked}
-use Rattle.book.specs.Current.{bookSize, issued, entry, kgTo, withIssued, withPlan, fitted, admitted}
+use Rattle.book.specs.Current.{bookSize, issued, entry, kgToDate, withIssued, withPlan, fitted, admitted}
 use Rattle.book.specs.Layout.{lineWords, year}
 use Rattle.balance.specs.Balance.{tonnesDue}
 use Rattle.opening.specs.Opening.{openBook}
@@ -110,7 +110,7 @@ figuresOf l b i =
       remaining = remaining (cell l i) (entry b i);
       oxidised = entry b i .oxidised;
       burned = entry b i .burned;
-      kg = kgTo l b i;
+      kg = kgToDate l b i;
       «plan_year» = entry b i .plan;
       withdrawn = entry b i .withdrawn;
     }
@@ -143,12 +143,12 @@ linesBuffer (Withdraw i) = []
 linesBuffer Issue = []
 
 -- y is as long as x, and has x's words from place n on
-pub record Beyond (n : ℕ) (x y : List ℕ) : Type 0 where
+pub record UntouchedFrom (n : ℕ) (x y : List ℕ) : Type 0 where
   pub length-is : length y ≡ length x
   pub words-are : (k : ℕ) → n ≤ k → getD y k 0 ≡ getD x k 0
 
 -- words beyond those needed are untouched everywhere; proofs/Untouched.antt proves it, and the forecast has a statement of its own
 pub record EveryUntouched : Type 0 where
-  pub opened : (l b : List ℕ) → Beyond (bookSize (cells l)) b (openEffect l b .book)
-  pub book : (l b : List ℕ) (c : Call) → Beyond (bookSize (cells l)) b (callEffect l b c .book)
-  pub lines : (l b : List ℕ) (c : Call) → Beyond (lineWords * cells l) (linesBuffer c) (callEffect l b c .output)
+  pub opened : (l b : List ℕ) → UntouchedFrom (bookSize (cells l)) b (openEffect l b .book)
+  pub book : (l b : List ℕ) (c : Call) → UntouchedFrom (bookSize (cells l)) b (callEffect l b c .book)
+  pub lines : (l b : List ℕ) (c : Call) → UntouchedFrom (lineWords * cells l) (linesBuffer c) (callEffect l b c .output)

@@ -7,7 +7,7 @@ use lib.ListN.{length, getD}
 use Rattle.fields.specs.Words.{yearTerms, isAbove}
 use Rattle.fields.specs.Valid.{HeadValid, RowValid, CellValid, TermValid}
 use Rattle.fields.specs.declared.Head.{Head}
-use Rattle.listing.specs.Layout.{cellWords, tablesAt, mostTermsAt, head, cells, strata, horizon, offsets, row, cell}
+use Rattle.listing.specs.Layout.{cellWords, tablesAt, latestTermsAt, head, cells, strata, horizon, offsets, row, cell}
 use Rattle.listing.specs.declared.Offsets.{Offsets}
 
 -- the parts follow each other, and the terms begin at word 2,114 or before
@@ -15,7 +15,7 @@ pub record Contiguous (h : Head) (s : Offsets) : Type 0 where
   pub tables : s .tables ≡ tablesAt h
   pub cells : s .cells ≡ s .tables + h .strata * h .horizon
   pub terms : s .terms ≡ s .cells + cellWords * h .cells
-  pub terms-at-most : s .terms ≤ mostTermsAt
+  pub terms-at-most : s .terms ≤ latestTermsAt
 
 -- all of it
 pub record Accepted (l : List ℕ) : Type 0 where

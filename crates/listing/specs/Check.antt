@@ -12,19 +12,19 @@ use Rattle.listing.specs.Layout.{leastWords, cellWords, head, offsets}
 use Rattle.listing.specs.declared.Offsets.{Offsets}
 
 -- "kind, zero bits or range" of the word at place k: of a table
-abbrev pub tableValid : List ℕ → ℕ → Bool
-tableValid l k = isTableWord (getD l k 0)
+abbrev pub tableWordValid : List ℕ → ℕ → Bool
+tableWordValid l k = isTableWord (getD l k 0)
 
 -- of the cells, from `start` on: a cell's two words alternate
 unfoldable pub isCellWord : ℕ → ℕ → ℕ → ℕ → Bool
 isCellWord strata horizon offset w = cond (eqb offset 0) (isDepthWord strata horizon w) (isAreaWord w)
 
-abbrev pub cellValid : List ℕ → ℕ → ℕ → ℕ → ℕ → Bool
-cellValid l strata horizon start k = isCellWord strata horizon ((k - start) % cellWords) (getD l k 0)
+abbrev pub cellWordValid : List ℕ → ℕ → ℕ → ℕ → ℕ → Bool
+cellWordValid l strata horizon start k = isCellWord strata horizon ((k - start) % cellWords) (getD l k 0)
 
 -- of the terms
-abbrev pub termValid : List ℕ → ℕ → ℕ → Bool
-termValid l horizon k = isTermWord horizon (getD l k 0)
+abbrev pub termWordValid : List ℕ → ℕ → ℕ → Bool
+termWordValid l horizon k = isTermWord horizon (getD l k 0)
 
 -- the term at place k is above the one before
 abbrev pub termAbove : List ℕ → ℕ → Bool
@@ -33,9 +33,9 @@ termAbove l k = isAbove (getD l (k - 1) 0) (getD l k 0)
 -- numbers 4 and 5, the words after the head: every 4 is tried before any 5
 unfoldable pub wordsChecked : List ℕ → Head → Offsets → Answer
 wordsChecked l h s =
-    needAll laterWord (tableValid l) (s .tables) (s .cells)
-    (needAll laterWord (cellValid l (h .strata) (h .horizon) (s .cells)) (s .cells) (s .terms)
-    (needAll laterWord (termValid l (h .horizon)) (s .terms) (length l)
+    needAll laterWord (tableWordValid l) (s .tables) (s .cells)
+    (needAll laterWord (cellWordValid l (h .strata) (h .horizon) (s .cells)) (s .cells) (s .terms)
+    (needAll laterWord (termWordValid l (h .horizon)) (s .terms) (length l)
     (needAll termNotAbove (termAbove l) (s .terms + 1) (length l)
     (accepted 0))))
 

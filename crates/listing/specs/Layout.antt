@@ -37,8 +37,8 @@ cellWords = 2
 abbrev pub tablesAt : Head → ℕ
 tablesAt h = 2
 
-abbrev pub mostTablesAt : ℕ
-mostTablesAt = 2
+abbrev pub latestTablesAt : ℕ
+latestTablesAt = 2
 
 -- the tables have for each stratum one word for each year of age; then come the cells; then the terms
 unfoldable pub offsetsOf : Head → Offsets
@@ -53,14 +53,14 @@ abbrev pub offsets : List ℕ → Offsets
 offsets l = offsetsOf (head l)
 
 -- the latest place where the terms begin, the most terms, 700, and the words of the longest listing
-abbrev pub mostTermsAt : ℕ
-mostTermsAt = mostTablesAt + mostStrata * mostHorizon + cellWords * mostCells
+abbrev pub latestTermsAt : ℕ
+latestTermsAt = latestTablesAt + mostStrata * mostHorizon + cellWords * mostCells
 
 abbrev pub mostTermWords : ℕ
 mostTermWords = yearTerms * mostHorizon
 
 abbrev pub mostWords : ℕ
-mostWords = mostTermsAt + mostTermWords
+mostWords = latestTermsAt + mostTermWords
 
 -- the row of a stratum's table for a year of age, 1 to the horizon
 abbrev pub rowAt : List ℕ → ℕ → ℕ → ℕ

@@ -7,7 +7,7 @@ ghost use Rattle.words.specs.Search.{firstInvalid};
 ghost use Rattle.words.specs.Answers.{outcome};
 ghost use Rattle.fields.specs.Valid.{SizesWithin};
 ghost use Rattle.listing.specs.Layout.{leastWords, head, cells, strata, horizon, offsetsOf, rowAt, row, cellAt, cell};
-ghost use Rattle.listing.specs.Check.{isCellWord, tableValid, cellValid, termValid, termAbove, wordsChecked, laterChecked, checked};
+ghost use Rattle.listing.specs.Check.{isCellWord, tableWordValid, cellWordValid, termWordValid, termAbove, wordsChecked, laterChecked, checked};
 ghost use Rattle.listing.specs.Accepted.{Contiguous, Accepted};
 use fields::Cell;
 use fields::Head;
@@ -60,7 +60,7 @@ fn is_cell_word(w: u32, strata: u32, horizon: u32, offset: usize) -> bool
 // Whether every word of the tables is valid: without a branch for each word, since most listings are.
 fn tables_valid(listing: &[u32], start: usize, end: usize) -> bool
     requires { ⌜ (start ≤ end) × (end ≤ length (now listing)) ⌝ }
-    ensures { λ r. ⌜ (r ≡ true → end ≡ firstInvalid (tableValid (now (listing .entry))) start end) ⌝ }
+    ensures { λ r. ⌜ (r ≡ true → end ≡ firstInvalid (tableWordValid (now (listing .entry))) start end) ⌝ }
 {
     let mut faults: u32 = 0;
     let mut at = start;
@@ -72,9 +72,15 @@ fn tables_valid(listing: &[u32], start: usize, end: usize) -> bool
 }
 
 // The first word of the tables that is invalid; where there is none, `end`.
-fn first_table(listing: &[u32], strata: usize, horizon: usize, start: usize, end: usize) -> usize
+fn first_invalid_table_word(
+    listing: &[u32],
+    strata: usize,
+    horizon: usize,
+    start: usize,
+    end: usize,
+) -> usize
     requires { ⌜ (end ≡ start + strata * horizon) × (end ≤ length (now listing)) ⌝ }
-    ensures { λ r. ⌜ r ≡ firstInvalid (tableValid (now (listing .entry))) start end ⌝ }
+    ensures { λ r. ⌜ r ≡ firstInvalid (tableWordValid (now (listing .entry))) start end ⌝ }
 {
     if tables_valid(listing, start, end) {
         return end;
@@ -95,10 +101,10 @@ fn first_table(listing: &[u32], strata: usize, horizon: usize, start: usize, end
     at
 }
 
-// Whether every word of the cells is valid, with a cell's two words in an iteration and none over.
+// Whether every word of the cells is valid, with a cell's two words in an iteration and none left over.
 fn cells_valid(listing: &[u32], strata: u32, horizon: u32, start: usize, end: usize) -> bool
     requires { ⌜ (start ≤ end) × (end ≤ length (now listing)) ⌝ }
-    ensures { λ r. ⌜ (r ≡ true → end ≡ firstInvalid (cellValid (now (listing .entry)) strata horizon start) start end) ⌝ }
+    ensures { λ r. ⌜ (r ≡ true → end ≡ firstInvalid (cellWordValid (now (listing .entry)) strata horizon start) start end) ⌝ }
 {
     let mut valid = true;
     let mut at = start;
@@ -111,9 +117,15 @@ fn cells_valid(listing: &[u32], strata: u32, horizon: u32, start: usize, end: us
 }
 
 // The first word of the cells that is invalid; where there is none, `end`.
-fn first_cell(listing: &[u32], strata: u32, horizon: u32, start: usize, end: usize) -> usize
+fn first_invalid_cell_word(
+    listing: &[u32],
+    strata: u32,
+    horizon: u32,
+    start: usize,
+    end: usize,
+) -> usize
     requires { ⌜ (start ≤ end) × (end ≤ length (now listing)) ⌝ }
-    ensures { λ r. ⌜ r ≡ firstInvalid (cellValid (now (listing .entry)) strata horizon start) start end ⌝ }
+    ensures { λ r. ⌜ r ≡ firstInvalid (cellWordValid (now (listing .entry)) strata horizon start) start end ⌝ }
 {
     if cells_valid(listing, strata, horizon, start, end) {
         return end;
@@ -133,7 +145,7 @@ fn first_cell(listing: &[u32], strata: u32, horizon: u32, start: usize, end: usi
 fn terms_valid(listing: &[u32], horizon: u32, start: usize) -> bool
     requires { ⌜ start ≤ length (now listing) ⌝ }
     ensures { λ r. ⌜ (r ≡ true →
-        (length (now (listing .entry)) ≡ firstInvalid (termValid (now (listing .entry)) horizon) start (length (now (listing .entry))))
+        (length (now (listing .entry)) ≡ firstInvalid (termWordValid (now (listing .entry)) horizon) start (length (now (listing .entry))))
         × (length (now (listing .entry)) ≡ firstInvalid (termAbove (now (listing .entry))) (start + 1) (length (now (listing .entry))))) ⌝ }
 {
     if listing.len() <= start {
@@ -152,9 +164,9 @@ fn terms_valid(listing: &[u32], horizon: u32, start: usize) -> bool
 }
 
 // The first term that is invalid; where there is none, the length.
-fn first_term(listing: &[u32], horizon: u32, start: usize) -> usize
+fn first_invalid_term(listing: &[u32], horizon: u32, start: usize) -> usize
     requires { ⌜ start ≤ length (now listing) ⌝ }
-    ensures { λ r. ⌜ r ≡ firstInvalid (termValid (now (listing .entry)) horizon) start (length (now (listing .entry))) ⌝ }
+    ensures { λ r. ⌜ r ≡ firstInvalid (termWordValid (now (listing .entry)) horizon) start (length (now (listing .entry))) ⌝ }
 {
     let mut at = start;
     while at < listing.len() {
@@ -168,7 +180,7 @@ fn first_term(listing: &[u32], horizon: u32, start: usize) -> usize
 
 // The first term that is not above the one before; where there is none, the length, or one more
 // where there is no term.
-fn first_not_above(listing: &[u32], start: usize) -> usize
+fn first_term_not_above(listing: &[u32], start: usize) -> usize
     requires { ⌜ start ≤ length (now listing) ⌝ }
     ensures { λ r. ⌜ r ≡ firstInvalid (termAbove (now (listing .entry))) (start + 1) (length (now (listing .entry))) ⌝ }
 {
@@ -205,7 +217,7 @@ pub fn offsets_of(h: Head) -> Offsets
 
 // Where the table of a stratum has its word for a year of age. `h` is the listing's head, here and
 // below, so that it is read once where many words are.
-fn row_place(listing: &[u32], h: Head, stratum: u32, age: u32) -> usize
+fn row_at(listing: &[u32], h: Head, stratum: u32, age: u32) -> usize
     requires { ⌜ Accepted (now listing) × (h ≡ head (now listing)) × (stratum < strata (now listing)) × (1 ≤ age) × (age ≤ horizon (now listing)) ⌝ }
     ensures { λ r. ⌜ (r ≡ rowAt (now (listing .entry)) stratum age) × (r < length (now (listing .entry))) ⌝ }
 {
@@ -214,7 +226,7 @@ fn row_place(listing: &[u32], h: Head, stratum: u32, age: u32) -> usize
 }
 
 // Where cell `i` has its first word.
-fn cell_place(listing: &[u32], h: Head, i: usize) -> usize
+fn cell_at(listing: &[u32], h: Head, i: usize) -> usize
     requires { ⌜ Accepted (now listing) × (h ≡ head (now listing)) × (i < cells (now listing)) ⌝ }
     ensures { λ r. ⌜ (r ≡ cellAt (now (listing .entry)) i) × (r + 1 < length (now (listing .entry))) ⌝ }
 {
@@ -227,7 +239,7 @@ pub fn row(listing: &[u32], h: Head, stratum: u32, age: u32) -> Row
     requires { ⌜ Accepted (now listing) × (h ≡ head (now listing)) × (stratum < strata (now listing)) × (1 ≤ age) × (age ≤ horizon (now listing)) ⌝ }
     ensures { λ r. ⌜ r ≡ row (now (listing .entry)) stratum age ⌝ }
 {
-    fields::row_of(listing[row_place(listing, h, stratum, age)])
+    fields::row_of(listing[row_at(listing, h, stratum, age)])
 }
 
 // The figures of cell `i`.
@@ -235,7 +247,7 @@ pub fn cell(listing: &[u32], h: Head, i: usize) -> Cell
     requires { ⌜ Accepted (now listing) × (h ≡ head (now listing)) × (i < cells (now listing)) ⌝ }
     ensures { λ r. ⌜ r ≡ cell (now (listing .entry)) i ⌝ }
 {
-    let at = cell_place(listing, h, i);
+    let at = cell_at(listing, h, i);
     fields::cell_of(listing[at], listing[at + 1])
 }
 
@@ -244,7 +256,7 @@ fn check_words(listing: &[u32], h: Head, s: Offsets) -> Outcome
     requires { ⌜ Contiguous h s × (s .terms ≤ length (now listing)) ⌝ }
     ensures { λ r. ⌜ outcome r ≡ wordsChecked (now (listing .entry)) h s ⌝ }
 {
-    let table = first_table(
+    let table = first_invalid_table_word(
         listing,
         h.strata as usize,
         h.horizon as usize,
@@ -254,15 +266,15 @@ fn check_words(listing: &[u32], h: Head, s: Offsets) -> Outcome
     if table < s.cells {
         return refuse(LATER_WORD, table);
     }
-    let cell = first_cell(listing, h.strata, h.horizon, s.cells, s.terms);
+    let cell = first_invalid_cell_word(listing, h.strata, h.horizon, s.cells, s.terms);
     if cell < s.terms {
         return refuse(LATER_WORD, cell);
     }
     if terms_valid(listing, h.horizon, s.terms) {
         return Outcome::Done;
     }
-    let term = first_term(listing, h.horizon, s.terms);
-    let later = first_not_above(listing, s.terms);
+    let term = first_invalid_term(listing, h.horizon, s.terms);
+    let later = first_term_not_above(listing, s.terms);
     if term < listing.len() {
         return refuse(LATER_WORD, term);
     }

@@ -94,13 +94,13 @@ module _ {n : ℕ} {o : Order n} {l l′ b b′ : List ℕ} (e : ListingMoved o 
             rw (cell-is e m less, words-are m less, e .head-is) (r .entry-words (o .from m) (there e m less));
       }
 
-  all-moved : AllValid (check.bookValid current l b) 0 (bookSize n) → AllValid (check.bookValid current l′ b′) 0 (bookSize n)
+  all-moved : AllValid (check.bookWordValid current l b) 0 (bookSize n) → AllValid (check.bookWordValid current l′ b′) 0 (bookSize n)
   all-moved all k lo hi = placed current l′ b′ shaped (valid-moved (named current l b (λ j less. all j zero-le (rw (e .count) at less)))) k (rw (cells-is e) hi)
 
   -- ---- each store
 
   front : (current .head ≤ length b) × (current .head ≤ length b′)
-  front = let capacity = fits .capacity in let room′ = fits′ .capacity in (omega arith, omega arith)
+  front = let capacity = fits .capacity in let capacity′ = fits′ .capacity in (omega arith, omega arith)
 
   -- of a cell's mark and plan year
   pub plan-moved : (k : ℕ) (new : Entry) → BookMoved o (withPlan b k new) (withPlan b′ (o .to k) new)

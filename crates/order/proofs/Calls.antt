@@ -18,7 +18,7 @@ use Rattle.listing.specs.Layout.{head, strata, cell}
 use Rattle.year.specs.Year.{kgOf, planned, marked}
 use Rattle.year.specs.Fit.{SameFigures}
 use Rattle.year.proofs.Laws.{converted}
-use Rattle.book.specs.Current.{current, entry, kgTo, fitted, bookChecked, admitted, Sound}
+use Rattle.book.specs.Current.{current, entry, kgToDate, fitted, bookChecked, admitted, Sound}
 use Rattle.book.specs.Layout.{year}
 use Rattle.book.specs.Check as check
 use Rattle.book.proofs.Valid.{admitted-valid, valid-checked, fitted-is, checked-admits}
@@ -35,7 +35,7 @@ use Rattle.ledger.specs.Calls.{linesBuffer}
 use Rattle.ledger.proofs.AdmittedCell.{admitted-cell-accepted, unwithdrawn-accepted, replan-accepted}
 use Rattle.ledger.proofs.After.{call-admitted, call-admits}
 use Rattle.order.specs.Order.{SameYear, Order, Moved, ListingMoved, BookMoved, LinesMoved, moved, SameCall}
-use Rattle.order.proofs.Moved.{to-within, to-beyond, now-there, same-sum}
+use Rattle.order.proofs.Moved.{to-within, to-beyond, moved-there, same-sum}
 use Rattle.order.proofs.OwnWords.{own-words}
 use Rattle.order.proofs.Listings.{cells-is, horizon-is, cell-is, row-is, terms-are}
 use Rattle.order.proofs.Books.{year-is, issued-is, entry-is, there, plan-moved, issued-moved, closed-moved, lines-moved}
@@ -85,10 +85,10 @@ module _ {n : ℕ} {o : Order n} {l l′ b b′ : List ℕ} (v : Pair o l l′ b
   -- ---- a cell
 
   here-cell : (k : ℕ) → k < n → cell l′ (o .to k) ≡ cell l k
-  here-cell = now-there o (cell l) (cell l′) (cell-is e)
+  here-cell = moved-there o (cell l) (cell l′) (cell-is e)
 
   here-entry : (k : ℕ) → k < n → entry b′ (o .to k) ≡ entry b k
-  here-entry = now-there o (entry b) (entry b′) (entry-is eb)
+  here-entry = moved-there o (entry b) (entry b′) (entry-is eb)
 
   -- it is one, or it is none
   there-same : (k : ℕ) → ltb (o .to k) n ≡ ltb k n
@@ -115,13 +115,13 @@ module _ {n : ℕ} {o : Order n} {l l′ b b′ : List ℕ} (v : Pair o l l′ b
 
   -- ---- what is due
 
-  kg-is : (m : ℕ) → m < n → kgTo l′ b′ m ≡ kgTo l b (o .from m)
+  kg-is : (m : ℕ) → m < n → kgToDate l′ b′ m ≡ kgToDate l b (o .from m)
   kg-is m lt = ap (λ (h : Head). kgOf h (cell l′ m) (entry b′ m)) (e .head-is) ∙ ap₂ (kgOf (head l)) (cell-is e m lt) (entry-is eb m lt)
 
   due-is : tonnesDue l′ b′ ≡ tonnesDue l b
   due-is =
       let balance-is : balanceIn l′ b′ ≡ balanceIn l b =
-      balance-by l′ l (year b′) (year b) (kgTo l′ b′) (kgTo l b) (year-is eb) (rw (cells-is e, e .count) (same-sum o (kgTo l b) (kgTo l′ b′) kg-is))
+      balance-by l′ l (year b′) (year b) (kgToDate l′ b′) (kgToDate l b) (year-is eb) (rw (cells-is e, e .count) (same-sum o (kgToDate l b) (kgToDate l′ b′) kg-is))
       (ap (λ (h : Head). h .buffer) (e .head-is)) (terms-are e) in
       ap₂ due balance-is (issued-is eb)
 

@@ -10,7 +10,7 @@ use Rattle.listing.specs.Layout.{cells, horizon}
 use Rattle.listing.specs.Check.{checked}
 use Rattle.book.specs.Current.{admitted}
 use Rattle.book.specs.Layout.{lineWords}
-use Rattle.years.specs.Years.{closedFor}
+use Rattle.years.specs.Years.{afterClosings}
 use Rattle.ledger.specs.Calls.{openEffect, Close}
 use Rattle.ledger.proofs.After.{call-admitted}
 use Rattle.forecast.specs.Forecast.{outputChecked, forecastAnswer, forecastEffect}
@@ -49,11 +49,11 @@ module _ {n : ℕ} {o : Order n} {l l′ : List ℕ} (e : ListingMoved o l l′)
     closes′ : (t : ℕ) → t < horizon l → Closes l′ (openEffect l′ b′ .book) (forecastEffect l′ b′ x′ .output) t lines
     closes′ t lt = years′ .closes lines (capacity (cells l′) (cells-is e)) t (rw (horizon-is e) lt)
 
-    admits : (t : ℕ) → t < horizon l → admitted l (closedFor l (openEffect l b .book) t) .done ≡ true
-    admits t lt = call-admitted l (closedFor l (openEffect l b .book) t) (Close lines) (closes t lt .done)
+    admits : (t : ℕ) → t < horizon l → admitted l (afterClosings l (openEffect l b .book) t) .done ≡ true
+    admits t lt = call-admitted l (afterClosings l (openEffect l b .book) t) (Close lines) (closes t lt .done)
 
-    closed : (t : ℕ) → t ≤ horizon l → Pair o l l′ (closedFor l (openEffect l b .book) t) (closedFor l′ (openEffect l′ b′ .book) t)
-    unfolding closedFor
+    closed : (t : ℕ) → t ≤ horizon l → Pair o l l′ (afterClosings l (openEffect l b .book) t) (afterClosings l′ (openEffect l′ b′ .book) t)
+    unfolding afterClosings
     closed zero le = pair-opened e b b′ long (years .opens)
     closed (suc t) le = rw (closes t le .book, closes′ t le .book) at (pair-next (closed t (omega arith)) (admits t le) (Close lines) lines refl)
 

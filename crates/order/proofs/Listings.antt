@@ -9,7 +9,7 @@ use Rattle.words.proofs.Steps.{row-within}
 use Rattle.fields.specs.Fields.{rowOf}
 use Rattle.fields.specs.declared.Head.{Head}
 use Rattle.listing.specs.Layout.{head, cells, strata, horizon, cellWords, offsetsOf, offsets, rowAt, row, cell}
-use Rattle.listing.specs.Check.{tableValid, cellValid, termValid, termAbove, wordsChecked, laterChecked, checked}
+use Rattle.listing.specs.Check.{tableWordValid, cellWordValid, termWordValid, termAbove, wordsChecked, laterChecked, checked}
 use Rattle.listing.specs.Accepted.{Accepted}
 use Rattle.listing.proofs.Accepted.{parts-follow}
 use Rattle.terms.specs.Terms.{total, counted, termsToDate}
@@ -56,8 +56,8 @@ module _ {n : ℕ} {o : Order n} {l l′ : List ℕ} (e : ListingMoved o l l′)
       }
 
   -- a word of the cells is valid since the one that it came from is
-  cells-valid : (strata horizon : ℕ) → AllValid (cellValid l strata horizon (offsets l .cells)) (offsets l .cells) (offsets l .terms) →
-      AllValid (cellValid l′ strata horizon (offsets l .cells)) (offsets l .cells) (offsets l .terms)
+  cells-valid : (strata horizon : ℕ) → AllValid (cellWordValid l strata horizon (offsets l .cells)) (offsets l .cells) (offsets l .terms) →
+      AllValid (cellWordValid l′ strata horizon (offsets l .cells)) (offsets l .cells) (offsets l .terms)
   cells-valid strata horizon all k lo hi =
       let behind = parts-follow (head l) .1 in
       let start : ℕ = offsets l .cells in
@@ -74,8 +74,8 @@ module _ {n : ℕ} {o : Order n} {l l′ : List ℕ} (e : ListingMoved o l l′)
 -- ---- its check
 
 module _ {n : ℕ} {o : Order n} {l l′ : List ℕ} (e : ListingMoved o l l′) where
-  cells-back : (strata horizon : ℕ) → AllValid (cellValid l′ strata horizon (offsets l .cells)) (offsets l .cells) (offsets l .terms) →
-      AllValid (cellValid l strata horizon (offsets l .cells)) (offsets l .cells) (offsets l .terms)
+  cells-back : (strata horizon : ℕ) → AllValid (cellWordValid l′ strata horizon (offsets l .cells)) (offsets l .cells) (offsets l .terms) →
+      AllValid (cellWordValid l strata horizon (offsets l .cells)) (offsets l .cells) (offsets l .terms)
   cells-back strata horizon = rw (e .head-is) at (cells-valid (listing-back e) strata horizon)
 
   later-alike : ButForPlace (laterChecked l (head l) (offsets l)) (laterChecked l′ (head l) (offsets l))
@@ -83,9 +83,9 @@ module _ {n : ℕ} {o : Order n} {l l′ : List ℕ} (e : ListingMoved o l l′)
   later-alike =
       rw (e .length-is)
       (need-alike _ _ _ _ _ _
-      (every-tested _ (tableValid l) (tableValid l′) _ _ _ _ (λ k lo hi. rw (moved-before (e .cells-moved) k hi))
+      (every-tested _ (tableWordValid l) (tableWordValid l′) _ _ _ _ (λ k lo hi. rw (moved-before (e .cells-moved) k hi))
       (every-alike _ _ _ _ _ _ _ (cells-valid e (head l .strata) (horizon l)) (cells-back (head l .strata) (horizon l))
-      (every-tested _ (termValid l (horizon l)) (termValid l′ (horizon l)) _ _ _ _ (λ k lo hi. rw (e .terms-same k lo))
+      (every-tested _ (termWordValid l (horizon l)) (termWordValid l′ (horizon l)) _ _ _ _ (λ k lo hi. rw (e .terms-same k lo))
       (every-tested _ (termAbove l) (termAbove l′) _ _ _ _ (λ k lo hi. rw (e .terms-same k (omega arith), e .terms-same (k - 1) (omega arith)))
       (alike-same _))))))
 

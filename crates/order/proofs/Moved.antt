@@ -26,8 +26,8 @@ module _ {n : ℕ} (o : Order n) where
   to-beyond k le = ap (o .to) (sym (o .beyond k le)) ∙ o .there k
 
   -- what goes with cell k, where it now is
-  pub now-there : {A : Type 0} (f f′ : ℕ → A) → ((m : ℕ) → m < n → f′ m ≡ f (o .from m)) → (k : ℕ) → k < n → f′ (o .to k) ≡ f k
-  now-there f f′ same k lt = same (o .to k) (to-within k lt) ∙ ap f (o .back k)
+  pub moved-there : {A : Type 0} (f f′ : ℕ → A) → ((m : ℕ) → m < n → f′ m ≡ f (o .from m)) → (k : ℕ) → k < n → f′ (o .to k) ≡ f k
+  moved-there f f′ same k lt = same (o .to k) (to-within k lt) ∙ ap f (o .back k)
 
   -- it is there just if that came from it
   pub same-cell : (k m : ℕ) → eqb (o .to k) m ≡ eqb k (o .from m)

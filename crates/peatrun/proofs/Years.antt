@@ -37,16 +37,16 @@ use Rattle.ledger.specs.declared.Stated.{Stated}
 use Rattle.ledger.specs.declared.Stated.the-variants as state
 use Rattle.ledger.proofs.AdmittedCell.{cell-admitted}
 use Rattle.ledger.proofs.After.{opened-holds, closed-holds, issued-holds}
-use Rattle.peatrun.specs.Years.{OfListing, InYear, Ran, Slices, ranFor}
+use Rattle.peatrun.specs.Years.{RefusedByListing, InYear, Ran, Slices, ranFor}
 
 -- ---- open, on a book with space for the most cells
 
 -- an answer that is accepted, or refused by 1 to 5
-abbrev Listed : Answer → Type 0
-Listed a = a .done ≡ false → OfListing a
+abbrev ByListing : Answer → Type 0
+ByListing a = a .done ≡ false → RefusedByListing a
 
-module _ (l b : List ℕ) (roomy : bookSize mostCells ≤ length b) where
-  capacity-listed : checked l .done ≡ true → Listed (capacityChecked current l b)
+module _ (l b : List ℕ) (long-enough : bookSize mostCells ≤ length b) where
+  capacity-listed : checked l .done ≡ true → ByListing (capacityChecked current l b)
   unfolding capacityChecked
   capacity-listed done =
       let cells-most = accepted-listing l done .head-valid .cells .1 in
@@ -54,13 +54,13 @@ module _ (l b : List ℕ) (roomy : bookSize mostCells ≤ length b) where
       rw (sym (need-is (leb (bookSize (cells l)) (length b)) bookShort (length b) (accepted 0) (le-leb _ _ enough))) (λ h. absurd (false≢true (sym h)))
 
   -- it is refused by the listing's own numbers alone
-  pub opened-listed : Listed (openEffect l b .answer)
+  pub opened-listed : ByListing (openEffect l b .answer)
   unfolding openEffect check.fitted after
   opened-listed =
-      by-test Listed (checked l .done) (capacityChecked current l b) (checked l) capacity-listed
-      (λ _. checked-either Listed (λ n k low high h. record { refused = h; least = low; most = high }) (λ h. absurd (false≢true (sym h))) l)
+      by-test ByListing (checked l .done) (capacityChecked current l b) (checked l) capacity-listed
+      (λ _. checked-either ByListing (λ n k low high h. record { refused = h; least = low; most = high }) (λ h. absurd (false≢true (sym h))) l)
 
-  pub opened-refused : (book′ : List ℕ) (v : Outcome) → effect (outcome v) book′ [] ≡ openEffect l b → (r : Refusal) → v ≡ Refused r → OfListing (outcome v)
+  pub opened-refused : (book′ : List ℕ) (v : Outcome) → effect (outcome v) book′ [] ≡ openEffect l b → (r : Refusal) → v ≡ Refused r → RefusedByListing (outcome v)
   opened-refused book′ v e r d =
       let same = ap (λ (m : Effect). m .answer) e in
       rw same (opened-listed (ap (λ (a : Answer). a .done) (sym same ∙ ap outcome d)))

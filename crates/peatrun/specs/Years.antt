@@ -25,7 +25,7 @@ abbrev pub Longest : Type 0
 Longest = (l : List ℕ) → checked l .done ≡ true → 4 * length l ≤ mostBytes
 
 -- a refusal by one of the listing's own numbers, 1 to 5
-pub record OfListing (a : Answer) : Type 0 where
+pub record RefusedByListing (a : Answer) : Type 0 where
   pub refused : a .done ≡ false
   pub least : tooFewWords ≤ a .number
   pub most : a .number ≤ termNotAbove

@@ -12,7 +12,7 @@ ghost use Rattle.year.specs.Year.{remaining};
 ghost use Rattle.book.specs.Current.{entry, admitted};
 ghost use Rattle.book.specs.Layout.{lineWords};
 ghost use Rattle.closing.specs.Closable.{Closable};
-ghost use Rattle.peatrun.specs.Years.{mostBytes, OfListing, InYear, Ran, ranFor, remainingTotal};
+ghost use Rattle.peatrun.specs.Years.{mostBytes, RefusedByListing, InYear, Ran, ranFor, remainingTotal};
 use book::BOOK;
 use book::LINE_WORDS;
 use fields::MOST_CELLS;
@@ -75,9 +75,9 @@ fn print_refused(why: Refusal) -> bool
         && print_number(why.place as u64, b"\n")
 }
 
-// The refusal that an answer is.
-fn refuse(answer: Outcome) -> bool
-    requires { ⌜ OfListing (outcome answer) ⌝ }
+// Prints the refusal of an answer.
+fn print_refusal(answer: Outcome) -> bool
+    requires { ⌜ RefusedByListing (outcome answer) ⌝ }
 {
     match answer {
         Outcome::Done => true,
@@ -184,7 +184,7 @@ fn run(listing: &[u32]) -> bool {
     let mut book = [0u32; MOST_BOOK_WORDS];
     let opened = ledger::open(listing, &mut book);
     let Outcome::Done = opened else {
-        return refuse(opened);
+        return print_refusal(opened);
     };
     let mut lines = [0u32; MOST_LINE_WORDS];
     run_opened(listing, &mut book, &mut lines)

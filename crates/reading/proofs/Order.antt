@@ -12,7 +12,7 @@ use lib.Ieee.Fits.{down-pos}
 use lib.Pow.{pow-pos}
 use borrow.Author.Tests.{lt-ltb, ltb-true, ltb-false, le-leb, lt-leb, leb-true, eq-eqb, ne-eqb}
 use Rattle.words.proofs.Answers.{and-left, and-right}
-use Rattle.reading.specs.Metres.{isFinite, numerator, denominator, between, mostCore, lowestLevel, highestLevel, inCore, inLevel, Ends}
+use Rattle.reading.specs.Metres.{isFinite, numerator, denominator, inRange, mostCore, lowestLevel, highestLevel, inCore, inLevel, Ends}
 
 -- ---- the order of whole numbers with a sign
 pub neg-neg : (a b : ℕ) → leZ (negℤ (pos a)) (negℤ (pos b)) ≡ leb b a
@@ -112,11 +112,11 @@ module _ (x y : Float) (f : isFinite x ≡ true) (g : isFinite y ≡ true) (w : 
   le-whole = le-not-lt x y f g ∙ not-lt y x g f ∙ ap (λ (i : ℤ). leZ i (numerator y *ℤ pos (denominator x))) x-times
 
 -- the two tests of `in_range`: no NaN and no infinity passes both
-pub range-is : (x low high : Float) → Ends low high → between (numerator low) (numerator high) x ≡ (le low x && le x high)
+pub range-is : (x low high : Float) → Ends low high → inRange (numerator low) (numerator high) x ≡ (le low x && le x high)
 unfolding le
 range-is x low high e = go x low high (e .low-finite) (e .high-finite) (e .low-whole) (e .high-whole)
   where
-    go : (x low high : Float) → isFinite low ≡ true → isFinite high ≡ true → denominator low ≡ 1 → denominator high ≡ 1 → between (numerator low) (numerator high) x ≡ (le low x && le x high)
+    go : (x low high : Float) → isFinite low ≡ true → isFinite high ≡ true → denominator low ≡ 1 → denominator high ≡ 1 → inRange (numerator low) (numerator high) x ≡ (le low x && le x high)
     go x nan high f g v w = absurd (false≢true f)
     go x (inf s) high f g v w = absurd (false≢true f)
     go x (fin s m e) nan f g v w = absurd (false≢true g)
@@ -133,7 +133,7 @@ pub record Inside (low high : ℤ) (x : Float) : Type 0 where
   pub least : leZ (low *ℤ pos (denominator x)) (numerator x) ≡ true
   pub most : leZ (numerator x) (high *ℤ pos (denominator x)) ≡ true
 
-inside : (low high : ℤ) (x : Float) → between low high x ≡ true → Inside low high x
+inside : (low high : ℤ) (x : Float) → inRange low high x ≡ true → Inside low high x
 inside low high x h =
     let a = leZ (low *ℤ pos (denominator x)) (numerator x) in
     let b = leZ (numerator x) (high *ℤ pos (denominator x)) in

@@ -13,7 +13,7 @@ isFinite nan = false
 isFinite (inf s) = false
 isFinite (fin s m e) = true
 
--- "its exact value": a finite x is the fraction over x / under x, with an integer over x, 0 for -0 too, and under x above 0
+-- "its exact value": a finite x is the fraction numerator x / denominator x, with an integer numerator, 0 for -0 too, and a denominator above 0
 abbrev pub numerator : Float → ℤ
 numerator nan = pos 0
 numerator (inf s) = pos 0
@@ -25,15 +25,15 @@ denominator (inf s) = 1
 denominator (fin s m e) = down e
 
 -- low ≤ x ≤ high, for whole numbers low and high, with the denominator multiplied out
-abbrev pub between : ℤ → ℤ → Float → Bool
-between low high x = isFinite x && (leZ (low *ℤ pos (denominator x)) (numerator x) && leZ (numerator x) (high *ℤ pos (denominator x)))
+abbrev pub inRange : ℤ → ℤ → Float → Bool
+inRange low high x = isFinite x && (leZ (low *ℤ pos (denominator x)) (numerator x) && leZ (numerator x) (high *ℤ pos (denominator x)))
 
 -- "a core lies in 0 to 20 (−0 is 0)"
 abbrev pub mostCore : ℕ
 mostCore = 20
 
 unfoldable pub inCore : Float → Bool
-inCore x = between (pos 0) (pos mostCore) x
+inCore x = inRange (pos 0) (pos mostCore) x
 
 -- "a level in −100 to 3,000": the lowest is so many metres below zero
 abbrev pub lowestLevel : ℕ
@@ -43,7 +43,7 @@ abbrev pub highestLevel : ℕ
 highestLevel = 3000
 
 unfoldable pub inLevel : Float → Bool
-inLevel x = between (negℤ (pos lowestLevel)) (pos highestLevel) x
+inLevel x = inRange (negℤ (pos lowestLevel)) (pos highestLevel) x
 
 -- "its mm is the greatest whole number not above 1,000 times its exact value, also below zero": `shrZ` rounds down
 unfoldable pub mm : Float → ℤ

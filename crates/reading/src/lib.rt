@@ -8,7 +8,7 @@ ghost use mathlib.Core.Path.{_≡_};
 ghost use mathlib.Core.Bool.{true, false};
 ghost use lib.IntN.{pos, _+ℤ_};
 ghost use Rattle.words.specs.Answers.{amount};
-ghost use Rattle.reading.specs.Metres.{isFinite, numerator, between, inLevel, mm, lowestMm, Ends};
+ghost use Rattle.reading.specs.Metres.{isFinite, numerator, inRange, inLevel, mm, lowestMm, Ends};
 ghost use Rattle.reading.specs.Depth.{core, levels, depth};
 ghost use Rattle.reading.specs.declared.Reading.the-variants.{Missing};
 
@@ -57,7 +57,7 @@ pub fn core(x: f32) -> Amount
     if in_range(x, 0.0, MOST_CORE) {
         return Amount::Value(mm_above_lowest(x) - LOWEST_MM);
     }
-    if !finite(x) {
+    if !is_finite(x) {
         return refuse_amount(NOT_FINITE, 0);
     }
     refuse_amount(OUT_OF_RANGE, 0)
@@ -67,10 +67,10 @@ pub fn core(x: f32) -> Amount
 pub fn levels(surface: f32, base: f32) -> Amount
     ensures { λ r. ⌜ amount r ≡ levels surface base ⌝ }
 {
-    if !is_level(surface) {
+    if !in_level(surface) {
         return refuse_pair(surface, base);
     }
-    if !is_level(base) {
+    if !in_level(base) {
         return refuse_pair(surface, base);
     }
     let s = mm_above_lowest(surface);
@@ -90,20 +90,20 @@ fn refuse_pair(surface: f32, base: f32) -> Amount
     requires { ⌜ (inLevel surface ≡ true → inLevel base ≡ false) ⌝ }
     ensures { λ r. ⌜ amount r ≡ levels surface base ⌝ }
 {
-    if !finite(surface) {
+    if !is_finite(surface) {
         return refuse_amount(NOT_FINITE, 0);
     }
-    if !finite(base) {
+    if !is_finite(base) {
         return refuse_amount(NOT_FINITE, 1);
     }
-    if !is_level(surface) {
+    if !in_level(surface) {
         return refuse_amount(OUT_OF_RANGE, 0);
     }
     refuse_amount(OUT_OF_RANGE, 1)
 }
 
 // Neither a NaN nor an infinity: strictly between the two infinities.
-fn finite(x: f32) -> bool
+fn is_finite(x: f32) -> bool
     ensures { λ r. ⌜ r ≡ isFinite x ⌝ }
 {
     if x < f32::from_bits(0x7f80_0000) {
@@ -116,7 +116,7 @@ fn finite(x: f32) -> bool
 // there.
 fn in_range(x: f32, low: f32, high: f32) -> bool
     requires { ⌜ Ends low high ⌝ }
-    ensures { λ r. ⌜ r ≡ between (numerator low) (numerator high) x ⌝ }
+    ensures { λ r. ⌜ r ≡ inRange (numerator low) (numerator high) x ⌝ }
 {
     if low <= x {
         return x <= high;
@@ -124,7 +124,7 @@ fn in_range(x: f32, low: f32, high: f32) -> bool
     false
 }
 
-fn is_level(x: f32) -> bool
+fn in_level(x: f32) -> bool
     ensures { λ r. ⌜ r ≡ inLevel x ⌝ }
 {
     in_range(x, LOWEST_LEVEL, HIGHEST_LEVEL)

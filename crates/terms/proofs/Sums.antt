@@ -15,12 +15,12 @@ use borrow.Author.Tests.{le-leb, lt-leb}
 use Rattle.words.specs.Bits.{bits, atLeast0}
 use Rattle.words.proofs.Fields.{field-below}
 use Rattle.words.proofs.Signed.{by-test, size-add, size-part, atLeast0-add, cast-fits, cast-reads, add-fits, add-reads, Halved, signed-size, signed-most}
-use Rattle.fields.specs.Fields.{yearOf, termOf, tonnesOf, yearlyTerm}
+use Rattle.fields.specs.Fields.{yearOf, termOf, tonnesOf, yearlyTermOf}
 use Rattle.fields.specs.Words.{mostTerm, mostTermTonnes, mostTermTonnesBelow}
 use Rattle.fields.specs.declared.YearlyTerm.{YearlyTerm}
 use Rattle.fields.proofs.Valid.{term-most}
 use Rattle.listing.specs.Layout.{mostTermWords, offsets}
-use Rattle.terms.specs.Terms.{counted, total, termsToDate, mostTerms, mostTermsBelow}
+use Rattle.terms.specs.Terms.{counted, total, termsToDate, mostTermSum, mostTermSumBelow}
 use Rattle.terms.specs.Split.{upTo, Split}
 use Rattle.listing.specs.Accepted.{Accepted}
 use Rattle.listing.proofs.Accepted.{terms-at-most, years-rise}
@@ -62,10 +62,10 @@ counted-later : (year last w : ℕ) → year < yearOf w → counted year last w 
 unfolding counted
 counted-later year last w h = rw (lt-leb (yearOf w) year h)
 
--- t is what `fields::term_of` answered for the word
-module _ (w : ℕ) (t : YearlyTerm) (e : t ≡ yearlyTerm w) where
+-- t is what `fields::yearly_term_of` answered for the word
+module _ (w : ℕ) (t : YearlyTerm) (e : t ≡ yearlyTermOf w) where
   narrow : toZ w32 (ofZ w32 (t .tonnes)) ≡ tonnesOf w
-  unfolding yearlyTerm
+  unfolding yearlyTermOf
   narrow = cast-reads w32 (tonnesOf w) (ap (λ (u : YearlyTerm). u .tonnes) e) (omega (arith, tonnes-size w))
 
   pub tonnes-fit : SFits w64 (toZ w32 (ofZ w32 (t .tonnes)))
@@ -75,11 +75,11 @@ module _ (w : ℕ) (t : YearlyTerm) (e : t ≡ yearlyTerm w) where
   tonnes-are = cast-reads w64 (tonnesOf w) narrow (omega (arith, tonnes-size w))
 
   pub year-is : t .year ≡ yearOf w
-  unfolding yearlyTerm
+  unfolding yearlyTermOf
   year-is = ap (λ (u : YearlyTerm). u .year) e
 
   term-is : t .term ≡ termOf w
-  unfolding yearlyTerm
+  unfolding yearlyTermOf
   term-is = ap (λ (u : YearlyTerm). u .term) e
 
   pub within-last : (last : ℕ) → t .term ≤ last → tonnesOf w ≡ upTo last w
@@ -99,14 +99,14 @@ total-bound size none add f m h [] = omega arith
 total-bound size none add f m h (w ∷ ws) = omega (arith, add (f w) (total f ws), h w, total-bound size none add f m h ws)
 
 module _ (f : ℕ → ℤ) (size : (w : ℕ) → natAbs (f w) ≤ mostTermTonnesBelow) where
-  total-size : (ws : List ℕ) → length ws ≤ mostTermWords → natAbs (total f ws) ≤ mostTermsBelow
+  total-size : (ws : List ℕ) → length ws ≤ mostTermWords → natAbs (total f ws) ≤ mostTermSumBelow
   total-size ws h = omega (arith, total-bound natAbs refl size-add f mostTermTonnesBelow size ws)
 
 module _ (l : List ℕ) (year last : ℕ) (a : Accepted l) where
-  pub terms-size : natAbs (termsToDate l year last) ≤ mostTermsBelow
+  pub terms-size : natAbs (termsToDate l year last) ≤ mostTermSumBelow
   terms-size = total-size (counted year last) (counted-size year last) (drop (offsets l .terms) l) (omega (arith, length-drop (offsets l .terms) l, terms-at-most l a))
 
-  pub terms-most : atLeast0 (termsToDate l year last) ≤ mostTerms
+  pub terms-most : atLeast0 (termsToDate l year last) ≤ mostTermSum
   unfolding atLeast0
   terms-most =
       omega

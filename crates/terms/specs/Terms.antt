@@ -24,8 +24,8 @@ abbrev pub termsToDate : List ℕ → ℕ → ℕ → ℤ
 termsToDate l year last = total (counted year last) (drop (offsets l .terms) l)
 
 -- the most that they come to, above zero and below it
-abbrev pub mostTerms : ℕ
-mostTerms = mostTermWords * mostTermTonnes
+abbrev pub mostTermSum : ℕ
+mostTermSum = mostTermWords * mostTermTonnes
 
-abbrev pub mostTermsBelow : ℕ
-mostTermsBelow = mostTermWords * mostTermTonnesBelow
+abbrev pub mostTermSumBelow : ℕ
+mostTermSumBelow = mostTermWords * mostTermTonnesBelow

@@ -18,7 +18,7 @@ pub struct TermSums {
 }
 
 // Where the terms of the years 1 to `year` end: terms rise by year, so that these come first.
-fn end_of_year(listing: &[u32], start: usize, year: u32) -> usize
+fn end_of_terms_to_date(listing: &[u32], start: usize, year: u32) -> usize
     requires { ⌜ Accepted (now listing) × (start ≡ offsets (now listing) .terms) ⌝ }
     ensures { λ r. ⌜ Split (now (listing .entry)) year start r r ⌝ }
 {
@@ -26,7 +26,7 @@ fn end_of_year(listing: &[u32], start: usize, year: u32) -> usize
     let mut high = listing.len();
     while low < high {
         let middle = low + (high - low) / 2;
-        if fields::term_of(listing[middle]).year <= year {
+        if fields::yearly_term_of(listing[middle]).year <= year {
             low = middle + 1;
         } else {
             high = middle;
@@ -39,21 +39,21 @@ fn end_of_year(listing: &[u32], start: usize, year: u32) -> usize
 fn tonnes(w: u32) -> i64
     ensures { λ r. ⌜ r ≡ tonnesOf w ⌝ }
 {
-    fields::term_of(w).tonnes as i64
+    fields::yearly_term_of(w).tonnes as i64
 }
 
 // The same, or 0 where it is a term after `last`.
 fn up_to(w: u32, last: u32) -> i64
     ensures { λ r. ⌜ r ≡ upTo last w ⌝ }
 {
-    if fields::term_of(w).term <= last {
+    if fields::yearly_term_of(w).term <= last {
         return tonnes(w);
     }
     0
 }
 
 // Both sums of the words of terms.
-fn added(words: &[u32]) -> TermSums
+fn term_sums(words: &[u32]) -> TermSums
     requires { ⌜ length (now words) ≤ mostTermWords ⌝ }
     ensures { λ r. ⌜ (r .all ≡ total tonnesOf (now (words .entry))) × (r .buffered ≡ total (upTo 5) (now (words .entry))) ⌝ }
 {
@@ -75,6 +75,6 @@ pub fn terms_to_date(listing: &[u32], year: u32) -> TermSums
 {
     let s = listing::offsets_of(listing::head(listing));
     let start = s.terms;
-    let end = end_of_year(listing, start, year);
-    added(&listing[start..end])
+    let end = end_of_terms_to_date(listing, start, year);
+    term_sums(&listing[start..end])
 }

@@ -122,7 +122,7 @@ pub fn is_kind(w: u32, kind: u32) -> bool
 }
 
 // Whether bits `high` to `low` of `w` are a number from `least` to `most`.
-pub fn between(w: u32, high: u32, low: u32, least: u32, most: u32) -> bool
+pub fn bits_within(w: u32, high: u32, low: u32, least: u32, most: u32) -> bool
     requires { ⌜ BitRange high low ⌝ }
     ensures { λ r. ⌜ r ≡ within least most (bits w high low) ⌝ }
 {

@@ -5,7 +5,7 @@ use Rattle.words.specs.Answers.{need, needNone, after}
 use Rattle.words.specs.Bits.{twosComplement, atLeast0, isKind, within}
 use Rattle.words.specs.Blocks.{filled}
 use Rattle.words.specs.Search.{firstInvalidIn, firstInvalid}
-use Rattle.fields.specs.Fields.{headOf, rowOf, cellOf, yearlyTerm}
+use Rattle.fields.specs.Fields.{headOf, rowOf, cellOf, yearlyTermOf}
 use Rattle.fields.specs.Words.{isSizeWord, isFigureWord, isDepthWord, isAreaWord, isTermWord, isAbove}
 use Rattle.listing.specs.Check.{isCellWord, wordsChecked, laterChecked, checked}
 use Rattle.listing.specs.Layout.{offsetsOf}
@@ -13,7 +13,7 @@ use Rattle.terms.specs.Terms.{counted, total}
 use Rattle.words.specs.Effect.{written}
 use Rattle.words.specs.Sums.{sumBelow}
 use Rattle.year.specs.Year.{unconverted, inactive, burnedBy, oxidisedBy, mmOf, yearMm, emission, yearLoss, mostLoss}
-use Rattle.book.specs.Check.{isYearWord, isPlanWord, isBurnedWord, isHeadWord, entryValid, bookValid, capacityChecked, fitted, bookChecked, admitted}
+use Rattle.book.specs.Check.{isYearWord, isPlanWord, isBurnedWord, isHeadWord, entryWordValid, bookWordValid, capacityChecked, fitted, bookChecked, admitted}
 use Rattle.book.specs.Layout.{joined, year, issued, entryOf, stored, heldWords, linesOf}
 use Rattle.book.specs.Held.{newBook}
 use Rattle.balance.specs.Balance.{peatTonnes, withheld, balanceOf, due}
@@ -25,9 +25,9 @@ use Rattle.discount.specs.Discount.{greatest, notAbove, factor}
 use Rattle.worked.specs.Worked.{EveryRow}
 
 pub every-row : EveryRow
-unfolding ofBits need needNone after written twosComplement atLeast0 isKind within filled firstInvalidIn firstInvalid headOf rowOf cellOf yearlyTerm isSizeWord
+unfolding ofBits need needNone after written twosComplement atLeast0 isKind within filled firstInvalidIn firstInvalid headOf rowOf cellOf yearlyTermOf isSizeWord
     isFigureWord isDepthWord isAreaWord isTermWord isAbove isCellWord wordsChecked laterChecked checked offsetsOf counted total unconverted inactive burnedBy oxidisedBy mmOf
-    yearMm emission yearLoss mostLoss isYearWord isPlanWord isBurnedWord isHeadWord entryValid bookValid capacityChecked fitted bookChecked admitted joined year issued
+    yearMm emission yearLoss mostLoss isYearWord isPlanWord isBurnedWord isHeadWord entryWordValid bookWordValid capacityChecked fitted bookChecked admitted joined year issued
     entryOf stored heldWords newBook linesOf sumBelow peatTonnes withheld balanceOf due closedLines bookAfter linesAfter linesChecked lineFits yearChecked closeAnswer
     openEffect closeEffect cellChecked admittedCell issueAnswer issueEffect figuresOf statementAnswer core inDepth levels inCore inLevel mm greatest notAbove factor
 every-row = refl

@@ -255,7 +255,7 @@ fn worked() {
 }
 
 // A year of the second cell, with the first withdrawn.
-fn behind(l: &[u32], b: &mut [u32], x: &mut [u32]) {
+fn second_cell_year(l: &[u32], b: &mut [u32], x: &mut [u32]) {
     print_outcome(b"open two cells", ledger::open(l, b));
     print_outcome(b"withdraw the first", ledger::withdraw(l, b, 0));
     year(l, b, x, 1);
@@ -278,10 +278,10 @@ fn neighbours() {
     ];
     let mut b = [0u32; 8];
     let mut x = [0u32; 6];
-    behind(&l, &mut b, &mut x);
+    second_cell_year(&l, &mut b, &mut x);
     l[6] = 0x4101_07d0;
     l[8] = 0x4001_07d0;
-    behind(&l, &mut b, &mut x);
+    second_cell_year(&l, &mut b, &mut x);
 }
 
 fn main() {

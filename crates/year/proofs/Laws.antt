@@ -12,11 +12,11 @@ use Rattle.fields.specs.Valid.{HeadValid, RowValid, CellValid}
 use Rattle.fields.specs.declared.Head.{Head}
 use Rattle.fields.specs.declared.Row.{Row}
 use Rattle.fields.specs.declared.Cell.{Cell}
-use Rattle.year.specs.Year.{unconverted, inactive, age, drained, remaining, burnedBy, oxidisedBy, fire, mmOf, noMm, yearMm, emission, kgOf, lossOf, yearLoss}
+use Rattle.year.specs.Year.{unconverted, inactive, age, drained, remaining, burnedBy, oxidisedBy, burnedMm, mmOf, noMm, yearMm, emission, kgOf, lossOf, yearLoss}
 use Rattle.year.specs.Year.{noLoss, mostLine, mostEmission, mostLoss, afterLoss}
 use Rattle.year.specs.Fit.{Fit, SameFigures}
 use Rattle.year.specs.declared.Entry.{Entry}
-use Rattle.year.specs.declared.Depths.{Depths}
+use Rattle.year.specs.declared.LostMm.{LostMm}
 use Rattle.year.specs.declared.Loss.{Loss}
 
 -- ---- the products of an emission
@@ -100,7 +100,7 @@ module _ (h : Head) (c : Cell) (r : Row) (e : Entry) where
   unfolding mmOf
   mm-least =
       let b = burned-least (h .guard) (drained r) (r .burning) (remaining c e) in
-      let o = oxidised-least (drained r) (r .oxidation) (remaining c e) (fire h c r e) in
+      let o = oxidised-least (drained r) (r .oxidation) (remaining c e) (burnedMm h c r e) in
       (b .0, b .1, b .2, o .0, o .1)
 
   -- no more is lost than was entered, after the year too
@@ -108,11 +108,11 @@ module _ (h : Head) (c : Cell) (r : Row) (e : Entry) where
   lost-within p = let m = mm-least in omega arith
 
   -- the mm, and the loss, by what the calls for their parts answered
-  pub mm-by : (o b : ℕ) → b ≡ fire h c r e → o ≡ oxidisedBy (drained r) (r .oxidation) (remaining c e) b → _≡_ {A = Depths} (record { oxidised = o; burned = b }) (mmOf h c r e)
+  pub mm-by : (o b : ℕ) → b ≡ burnedMm h c r e → o ≡ oxidisedBy (drained r) (r .oxidation) (remaining c e) b → _≡_ {A = LostMm} (record { oxidised = o; burned = b }) (mmOf h c r e)
   unfolding mmOf
   mm-by o b p q = rw (q, p)
 
-  pub loss-by : (m : Depths) (before then : ℕ) → m ≡ mmOf h c r e → before ≡ kgOf h c e → then ≡ emission h c (e .oxidised + m .oxidised) (e .burned + m .burned) →
+  pub loss-by : (m : LostMm) (before then : ℕ) → m ≡ mmOf h c r e → before ≡ kgOf h c e → then ≡ emission h c (e .oxidised + m .oxidised) (e .burned + m .burned) →
       _≡_ {A = Loss} (record { oxidised = m .oxidised; burned = m .burned; kg = then - before }) (lossOf h c r e)
   unfolding lossOf
   loss-by m before then p u v = rw (v, u, p)
@@ -189,7 +189,7 @@ module _ (h : Head) (rows : ℕ → ℕ → Row) (c : Cell) (e : Entry) (t : ℕ
   loss-active q = rw (mm-active q)
 
   -- by the two cases
-  mm-is : (P : Depths → Type 0) → (inactive h c e t ≡ true → P noMm) → (inactive h c e t ≡ false → P (mmOf h c row e)) → P (yearMm h rows c e t)
+  mm-is : (P : LostMm → Type 0) → (inactive h c e t ≡ true → P noMm) → (inactive h c e t ≡ false → P (mmOf h c row e)) → P (yearMm h rows c e t)
   unfolding yearMm
   mm-is P p q = by-test P (inactive h c e t) noMm (mmOf h c row e) p q
 
@@ -197,7 +197,7 @@ module _ (h : Head) (rows : ℕ → ℕ → Row) (c : Cell) (e : Entry) (t : ℕ
   pub year-most : e .oxidised + e .burned ≤ mostLoss h c → (e .oxidised + yearLoss h rows c e t .oxidised) + (e .burned + yearLoss h rows c e t .burned) ≤ mostLoss h c
   unfolding yearLoss
   year-most p =
-      mm-is (λ (m : Depths). (e .oxidised + m .oxidised) + (e .burned + m .burned) ≤ mostLoss h c) (λ q. omega arith)
+      mm-is (λ (m : LostMm). (e .oxidised + m .oxidised) + (e .burned + m .burned) ≤ mostLoss h c) (λ q. omega arith)
       (λ q. let peat = most-peat h c (active h c e t q .1) in omega (arith, lost-within h c row e (omega arith)))
 
   -- the kg line is earned by the mm
@@ -209,7 +209,7 @@ module _ (h : Head) (rows : ℕ → ℕ → Row) (c : Cell) (e : Entry) (t : ℕ
   pub year-dry : 0 < yearLoss h rows c e t .burned → (unconverted (e .plan) t ≡ false) × (h .guard + yearLoss h rows c e t .burned ≤ drained (rows (c .stratum) (age (e .plan) t)))
   unfolding yearLoss
   year-dry =
-      mm-is (λ (m : Depths). 0 < m .burned → (unconverted (e .plan) t ≡ false) × (h .guard + m .burned ≤ drained row))
+      mm-is (λ (m : LostMm). 0 < m .burned → (unconverted (e .plan) t ≡ false) × (h .guard + m .burned ≤ drained row))
       (λ q z. absurd (omega arith))
       (λ q z. (active h c e t q .0, let m = mm-least h c row e in omega arith))
 
@@ -217,7 +217,7 @@ module _ (h : Head) (rows : ℕ → ℕ → Row) (c : Cell) (e : Entry) (t : ℕ
   module _ (head : HeadValid h) (cell : CellValid (h .strata) (h .horizon) c) (valid : (s a : ℕ) → RowValid (rows s a)) where
     mm-most : (yearMm h rows c e t .oxidised + yearMm h rows c e t .burned ≤ 2046) × (yearMm h rows c e t .burned ≤ 1023)
     mm-most =
-        mm-is (λ (m : Depths). (m .oxidised + m .burned ≤ 2046) × (m .burned ≤ 1023)) (λ q. (omega arith, omega arith))
+        mm-is (λ (m : LostMm). (m .oxidised + m .burned ≤ 2046) × (m .burned ≤ 1023)) (λ q. (omega arith, omega arith))
         (λ q. let m = mm-least h c row e in let r = valid (c .stratum) (age (e .plan) t) in (omega arith, omega arith))
 
     pub year-kg-most : yearLoss h rows c e t .kg ≤ mostLine
@@ -243,7 +243,7 @@ module _ {h h′ : Head} (figures : SameFigures h h′) (c : Cell) (e : Entry) w
   module _ (rows rows′ : ℕ → ℕ → Row) (t : ℕ) (same : unconverted (e .plan) t ≡ false → rows (c .stratum) (age (e .plan) t) ≡ rows′ (c .stratum) (age (e .plan) t)) where
     pub mm-by-figures : yearMm h rows c e t ≡ yearMm h′ rows′ c e t
     mm-by-figures =
-        mm-is h rows c e t (λ (m : Depths). m ≡ yearMm h′ rows′ c e t)
+        mm-is h rows c e t (λ (m : LostMm). m ≡ yearMm h′ rows′ c e t)
         (λ q. sym (mm-inactive h′ rows′ c e t (sym (inactive-same t) ∙ q)))
         (λ q. mm-same _ ∙ ap (λ (r : Row). mmOf h′ c r e) (same (active h c e t q .0)) ∙ sym (mm-active h′ rows′ c e t (sym (inactive-same t) ∙ q)))
 

@@ -6,7 +6,7 @@ use Rattle.fields.specs.declared.Head.{Head}
 use Rattle.fields.specs.declared.Row.{Row}
 use Rattle.fields.specs.declared.Cell.{Cell}
 use Rattle.year.specs.declared.Entry.{Entry}
-use Rattle.year.specs.declared.Depths.{Depths}
+use Rattle.year.specs.declared.LostMm.{LostMm}
 use Rattle.year.specs.declared.Loss.{Loss}
 
 -- the plan year is 0 or above t
@@ -38,18 +38,18 @@ unfoldable pub oxidisedBy : ℕ → ℕ → ℕ → ℕ → ℕ
 oxidisedBy d o R burned = min o (min (R - burned) (d - burned))
 
 -- an active cell, with row r: what it burns, and with that what it oxidises
-abbrev pub fire : Head → Cell → Row → Entry → ℕ
-fire h c r e = burnedBy (h .guard) (drained r) (r .burning) (remaining c e)
+abbrev pub burnedMm : Head → Cell → Row → Entry → ℕ
+burnedMm h c r e = burnedBy (h .guard) (drained r) (r .burning) (remaining c e)
 
-unfoldable pub mmOf : Head → Cell → Row → Entry → Depths
-mmOf h c r e = record { oxidised = oxidisedBy (drained r) (r .oxidation) (remaining c e) (fire h c r e); burned = fire h c r e }
+unfoldable pub mmOf : Head → Cell → Row → Entry → LostMm
+mmOf h c r e = record { oxidised = oxidisedBy (drained r) (r .oxidation) (remaining c e) (burnedMm h c r e); burned = burnedMm h c r e }
 
 -- no mm
-abbrev pub noMm : Depths
+abbrev pub noMm : LostMm
 noMm = record { oxidised = 0; burned = 0 }
 
 -- the mm of a cell's year t: the row is that of the cell's own stratum and of its own age
-unfoldable pub yearMm : Head → (ℕ → ℕ → Row) → Cell → Entry → ℕ → Depths
+unfoldable pub yearMm : Head → (ℕ → ℕ → Row) → Cell → Entry → ℕ → LostMm
 yearMm h rows c e t = cond (inactive h c e t) noMm (mmOf h c (rows (c .stratum) (age (e .plan) t)) e)
 
 -- emission to date in kg CO2e: K × (11,000 × (O + B) + 4 × G × e × B) / 30,000,000, rounded down, with K = area × q
@@ -61,7 +61,7 @@ abbrev pub kgOf : Head → Cell → Entry → ℕ
 kgOf h c e = emission h c (e .oxidised) (e .burned)
 
 -- a year's kg line is the emission after the year minus the emission before it
-abbrev pub withKg : Head → Cell → Entry → Depths → Loss
+abbrev pub withKg : Head → Cell → Entry → LostMm → Loss
 withKg h c e m = record { oxidised = m .oxidised; burned = m .burned; kg = emission h c (e .oxidised + m .oxidised) (e .burned + m .burned) - kgOf h c e }
 
 -- the loss of an active cell, and that of a cell's year t: its mm, with their kg

@@ -17,7 +17,7 @@ pub struct Entry {
 }
 
 // The mm that a cell loses in a year.
-pub struct Depths {
+pub struct LostMm {
     pub oxidised: u32,
     pub burned: u32,
 }
@@ -105,7 +105,7 @@ pub fn inactive(h: Head, c: Cell, e: Entry, year: u32) -> bool
     e.withdrawn | (unconverted(e.plan, year) | (c.entered < h.thickness))
 }
 
-// What burns of `left` mm: the guard above the water stays.
+// What burns of `remaining` mm: the guard above the water stays.
 fn burned_by(guard: u32, d: u32, b: u32, remaining: u32) -> u32
     ensures { λ r. ⌜ r ≡ burnedBy guard d b remaining ⌝ }
 {
@@ -143,7 +143,7 @@ pub fn no_loss() -> Loss
 }
 
 // The mm that an active cell loses, by its row of the table: the fire comes first.
-pub fn mm_of(h: Head, c: Cell, r: Row, e: Entry) -> Depths
+pub fn mm_of(h: Head, c: Cell, r: Row, e: Entry) -> LostMm
     requires { ⌜ Fit h c (e .oxidised) (e .burned) × RowValid r ⌝ }
     ensures { λ m. ⌜ m ≡ mmOf h c r e ⌝ }
 {
@@ -151,7 +151,7 @@ pub fn mm_of(h: Head, c: Cell, r: Row, e: Entry) -> Depths
     let d = 10 * r.drainage;
     let burned = burned_by(h.guard, d, r.burning, remaining);
     let oxidised = oxidised_by(d, r.oxidation, remaining, burned);
-    Depths { oxidised, burned }
+    LostMm { oxidised, burned }
 }
 
 // What it loses in all, where its kg to date is `before`.

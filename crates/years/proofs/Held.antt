@@ -15,7 +15,7 @@ use Rattle.book.proofs.Sound.{shaped, fitted-accepted}
 use Rattle.book.proofs.New.{new-again, new-holds}
 use Rattle.opening.specs.Opening.{openBook}
 use Rattle.closing.specs.Closing.{cellLoss, loss, closedWords, bookAfter}
-use Rattle.years.specs.Years.{entriesAfter, lossIn, closedFor, EveryYears}
+use Rattle.years.specs.Years.{entriesAfter, lossIn, afterClosings, EveryYears}
 use Rattle.years.proofs.After.{after-valid}
 
 module _ (l b : List ℕ) (fits : fitted l b .done ≡ true) where
@@ -40,8 +40,8 @@ module _ (l b : List ℕ) (fits : fitted l b .done ≡ true) where
         (λ i lt. ap₂ (λ (e : Entry) (u : ℕ). heldWords (current .entry) (afterLoss e (cellLoss l (u + 1) i e))) (years-hold .entry-is i lt) (years-hold .year-is)))
         ∙ new-again current shaped l b fits t 0 (entriesAfter l t) (suc t) (entriesAfter l (suc t)))
 
-  held-closed : (t : ℕ) → t ≤ horizon l → closedFor l (openBook l b) t ≡ held t
-  unfolding closedFor entriesAfter
+  held-closed : (t : ℕ) → t ≤ horizon l → afterClosings l (openBook l b) t ≡ held t
+  unfolding afterClosings entriesAfter
   held-closed zero le = refl
   held-closed (suc t) le = let before : t ≤ horizon l = omega arith in ap (bookAfter l) (held-closed t before) ∙ held-next t before
 

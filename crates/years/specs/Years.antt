@@ -22,16 +22,16 @@ abbrev pub lossIn : List ℕ → ℕ → ℕ → Loss
 lossIn l i t = cellLoss l (t + 1) i (entriesAfter l t i)
 
 -- book b after t closings
-unfoldable pub closedFor : List ℕ → List ℕ → ℕ → List ℕ
-closedFor l b zero = b
-closedFor l b (suc t) = bookAfter l (closedFor l b t)
+unfoldable pub afterClosings : List ℕ → List ℕ → ℕ → List ℕ
+afterClosings l b zero = b
+afterClosings l b (suc t) = bookAfter l (afterClosings l b t)
 
 -- the opened book b after t closings: it is the book of year t with these entries, it is accepted and holds them, and what its next closing
 -- works out for each cell is the cell's loss in the year t + 1
 pub record HeldYears (l b : List ℕ) (t : ℕ) : Type 0 where
-  pub book-is : closedFor l (openBook l b) t ≡ newBook l b t 0 (entriesAfter l t)
-  pub holds : Holds l (closedFor l (openBook l b) t) t 0 (entriesAfter l t)
-  pub loss-is : (i : ℕ) → i < cells l → loss l (closedFor l (openBook l b) t) i ≡ lossIn l i t
+  pub book-is : afterClosings l (openBook l b) t ≡ newBook l b t 0 (entriesAfter l t)
+  pub holds : Holds l (afterClosings l (openBook l b) t) t 0 (entriesAfter l t)
+  pub loss-is : (i : ℕ) → i < cells l → loss l (afterClosings l (openBook l b) t) i ≡ lossIn l i t
 
 abbrev pub EveryYears : Type 0
 EveryYears = (l b : List ℕ) → fitted l b .done ≡ true → (t : ℕ) → t ≤ horizon l → HeldYears l b t

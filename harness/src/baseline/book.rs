@@ -33,10 +33,10 @@ pub fn parts<'a>(listing: &Listing, book: &'a mut [u32]) -> Result<Book<'a>, Ans
 pub fn check(listing: &Listing, book: &Book) -> Result<(), Answer> {
     let head = year_is_valid(listing, *book.year) & issued_is_valid(*book.issued);
     let pairs = listing.cells.iter().zip(&*book.entries);
-    let valid = pairs.fold(head, |all, (&[peat, _], &[plan, oxidised, burned])| {
+    let valid = pairs.fold(head, |all, (&[depth, _], &[plan, oxidised, burned])| {
         all & plan_is_valid(listing, plan)
             & oxidised_is_valid(oxidised)
-            & burned_is_valid(peat, oxidised, burned)
+            & burned_is_valid(depth, oxidised, burned)
     });
     if !valid {
         return Err(first_refusal(listing, book));
@@ -61,8 +61,8 @@ fn oxidised_is_valid(word: u32) -> bool {
 }
 
 /// A bad sum counts here.
-fn burned_is_valid(peat: u32, oxidised: u32, burned: u32) -> bool {
-    (burned >> 28 == 12) & (bits(oxidised, 27, 0) + bits(burned, 27, 0) <= most_loss(peat))
+fn burned_is_valid(depth: u32, oxidised: u32, burned: u32) -> bool {
+    (burned >> 28 == 12) & (bits(oxidised, 27, 0) + bits(burned, 27, 0) <= most_loss(depth))
 }
 
 /// The first invalid word of a book that has one.
@@ -75,11 +75,11 @@ fn first_refusal(listing: &Listing, book: &Book) -> Answer {
         return refusal(8, 1);
     }
     let pairs = listing.cells.iter().zip(&*book.entries);
-    let words = pairs.flat_map(|(&[peat, _], &[plan, oxidised, burned])| {
+    let words = pairs.flat_map(|(&[depth, _], &[plan, oxidised, burned])| {
         [
             plan_is_valid(listing, plan),
             oxidised_is_valid(oxidised),
-            burned_is_valid(peat, oxidised, burned),
+            burned_is_valid(depth, oxidised, burned),
         ]
     });
     refusal(8, 2 + words.take_while(|&valid| valid).count())

@@ -28,21 +28,21 @@ pub fn close(listing: &[u32], book: &mut [u32], lines: &mut [u32]) -> Outcome {
 fn close_cell(
     listing: &Listing,
     year: u32,
-    [peat, ground]: [u32; 2],
+    [depth, area]: [u32; 2],
     [plan, oxidised_word, burned_word]: &mut [u32; 3],
 ) -> [u32; 3] {
-    let (entered, plan_year) = (bits(peat, 15, 0), bits(*plan, 7, 0));
+    let (entered, plan_year) = (bits(depth, 15, 0), bits(*plan, 7, 0));
     let withdrawn = bits(*plan, 8, 8) == 1;
     if withdrawn || plan_year == 0 || year < plan_year || !is_peat(entered) {
         return [13 << 28, 14 << 28, 15 << 28];
     }
-    let row = (bits(peat, 27, 24) * listing.horizon + year - plan_year) as usize;
+    let row = (bits(depth, 27, 24) * listing.horizon + year - plan_year) as usize;
     let (oxidised, burned) = (bits(*oxidised_word, 27, 0), bits(*burned_word, 27, 0));
     let (more_oxidised, more_burned) = loss(listing.tables[row], entered - oxidised - burned);
-    let before = emission(listing.methane, ground, oxidised, burned);
+    let before = emission(listing.methane_factor, area, oxidised, burned);
     let after = emission(
-        listing.methane,
-        ground,
+        listing.methane_factor,
+        area,
         oxidised + more_oxidised,
         burned + more_burned,
     );

@@ -26,18 +26,18 @@ pub fn forecast(listing: &[u32], book: &mut [u32], output: &mut [u64]) -> Outcom
 
 /// Adds a cell's kg to each year from its conversion on; what it oxidised and burned in the end.
 #[inline(always)]
-fn run_cell(listing: &Listing, [peat, ground]: [u32; 2], output: &mut [u64]) -> (u32, u32) {
-    let (plan_year, entered) = (bits(peat, 23, 16) as usize, bits(peat, 15, 0));
+fn run_cell(listing: &Listing, [depth, area]: [u32; 2], output: &mut [u64]) -> (u32, u32) {
+    let (plan_year, entered) = (bits(depth, 23, 16) as usize, bits(depth, 15, 0));
     let (mut oxidised, mut burned, mut before) = (0, 0, 0);
     if plan_year == 0 || !is_peat(entered) {
         return (oxidised, burned);
     }
-    let table = &listing.tables[bits(peat, 27, 24) as usize * output.len()..];
+    let table = &listing.tables[bits(depth, 27, 24) as usize * output.len()..];
     for (&row, kg) in table.iter().zip(&mut output[plan_year - 1..]) {
         let (more_oxidised, more_burned) = loss(row, entered - oxidised - burned);
         oxidised += more_oxidised;
         burned += more_burned;
-        let after = emission(listing.methane, ground, oxidised, burned);
+        let after = emission(listing.methane_factor, area, oxidised, burned);
         *kg += u64::from(after - before);
         before = after;
     }

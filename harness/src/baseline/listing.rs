@@ -8,7 +8,7 @@ pub struct Listing<'a> {
     /// The buffer percentage p.
     pub buffer: u32,
     /// 4 × G × e, the methane factor of burned peat.
-    pub methane: u64,
+    pub methane_factor: u64,
     /// Each stratum's words, one for each year of age.
     pub tables: &'a [u32],
     pub cells: &'a [[u32; 2]],
@@ -40,7 +40,7 @@ impl<'a> Listing<'a> {
             strata,
             horizon,
             buffer: bits(figures, 22, 16),
-            methane: u64::from(4 * bits(figures, 15, 8) * bits(figures, 7, 0)),
+            methane_factor: u64::from(4 * bits(figures, 15, 8) * bits(figures, 7, 0)),
             tables,
             cells: cells.as_chunks().0,
             terms,
@@ -65,9 +65,8 @@ impl<'a> Listing<'a> {
     }
 
     fn cells_valid(&self) -> bool {
-        let valid = |all, &[peat, ground]: &[u32; 2]| {
-            all & self.peat_is_valid(peat) & ground_is_valid(ground)
-        };
+        let valid =
+            |all, &[depth, area]: &[u32; 2]| all & self.depth_is_valid(depth) & area_is_valid(area);
         self.cells.iter().fold(true, valid)
     }
 
@@ -89,11 +88,11 @@ impl<'a> Listing<'a> {
         if let Some(i) = self.tables.iter().position(|&word| !row_is_valid(word)) {
             return refusal(4, 2 + i);
         }
-        for (i, &[peat, ground]) in self.cells.iter().enumerate() {
-            if !self.peat_is_valid(peat) {
+        for (i, &[depth, area]) in self.cells.iter().enumerate() {
+            if !self.depth_is_valid(depth) {
                 return refusal(4, cells + 2 * i);
             }
-            if !ground_is_valid(ground) {
+            if !area_is_valid(area) {
                 return refusal(4, cells + 2 * i + 1);
             }
         }
@@ -106,7 +105,7 @@ impl<'a> Listing<'a> {
         refusal(5, terms + 1 + pairs.position(falls).unwrap_or_default())
     }
 
-    fn peat_is_valid(&self, word: u32) -> bool {
+    fn depth_is_valid(&self, word: u32) -> bool {
         (word >> 28 == 4)
             & (bits(word, 27, 24) < self.strata)
             & (bits(word, 23, 16) <= self.horizon)
@@ -141,7 +140,7 @@ fn row_is_valid(word: u32) -> bool {
     word >> 28 == 3
 }
 
-fn ground_is_valid(word: u32) -> bool {
+fn area_is_valid(word: u32) -> bool {
     let (area, density) = (bits(word, 25, 12), bits(word, 11, 0));
     (word >> 28 == 5)
         & (bits(word, 27, 26) == 0)

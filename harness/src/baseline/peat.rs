@@ -12,8 +12,8 @@ pub fn is_peat(entered: u32) -> bool {
 }
 
 /// The most that can be lost by a cell with this first word.
-pub fn most_loss(peat: u32) -> u32 {
-    let entered = bits(peat, 15, 0);
+pub fn most_loss(depth: u32) -> u32 {
+    let entered = bits(depth, 15, 0);
     if is_peat(entered) {
         entered
     } else {
@@ -37,8 +37,8 @@ pub fn loss(row: u32, remaining: u32) -> (u32, u32) {
 
 /// Emission to date in kg, by a cell's second word: at most 816,000,000.
 #[inline(always)]
-pub fn emission(methane: u64, ground: u32, oxidised: u32, burned: u32) -> u32 {
-    let carbon = u64::from(bits(ground, 25, 12) * bits(ground, 11, 0));
-    let shares = 11_000 * u64::from(oxidised + burned) + methane * u64::from(burned);
+pub fn emission(methane_factor: u64, area: u32, oxidised: u32, burned: u32) -> u32 {
+    let carbon = u64::from(bits(area, 25, 12) * bits(area, 11, 0));
+    let shares = 11_000 * u64::from(oxidised + burned) + methane_factor * u64::from(burned);
     (carbon * shares / 30_000_000) as u32
 }

@@ -93,7 +93,7 @@ impl History {
     }
 
     /// "Tonnes issued are the answers of all issues." Answers "the balance at an issue": "with the
-    /// count of accepted closings before it as the current year and the kg lines returned before
+    /// count of accepted closings before it as the current year and the kg lines handed out before
     /// it as kg to date".
     pub fn issued(&mut self, tonnes: u32) -> i128 {
         let kilograms = self.of_cells.iter().map(|sums| sums.kilograms).sum();

@@ -7,7 +7,7 @@ use harness::site::{Site, LINE_WORDS};
 use harness::{Account, PROVED};
 
 /// What a list has returned, with what only the table asks: marks, plan years, mm lost, and the balances at its issues.
-struct Tally<'a> {
+struct ListTally<'a> {
     site: &'a Site,
     history: History,
     withdrawn: Vec<bool>,
@@ -16,9 +16,9 @@ struct Tally<'a> {
     balances: Vec<i128>,
 }
 
-impl<'a> Tally<'a> {
+impl<'a> ListTally<'a> {
     fn opened(site: &'a Site, listing: &[u32]) -> Self {
-        Tally {
+        ListTally {
             site,
             history: History::opened(listing),
             withdrawn: vec![false; site.cells.len()],
@@ -235,7 +235,7 @@ fn list(random: &mut Random, met: &mut Met) {
     let site = generate::any_site(random);
     let mut lent = lend(random, &site);
     open(met, &site, &mut lent);
-    let mut tally = Tally::opened(&site, &lent.listing);
+    let mut tally = ListTally::opened(&site, &lent.listing);
     let length = random.between(0, 3 * site.horizon + 10);
     for _ in 0..length {
         let call = generate::call(random, &site, tally.history.closings());

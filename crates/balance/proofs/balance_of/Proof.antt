@@ -11,7 +11,7 @@ use borrow.Author.Needs.{needs}
 use Rattle.words.proofs.Signed.{call-reads, cast-reads, sub-fits, sub-reads}
 use Rattle.fields.specs.declared.Head.{Head}
 use Rattle.listing.specs.Layout.{head}
-use Rattle.terms.specs.Terms.{termsToDate, mostTermsBelow}
+use Rattle.terms.specs.Terms.{termsToDate, mostTermSumBelow}
 use Rattle.terms.proofs.Sums.{terms-size}
 use Rattle.balance.specs.Balance.{toDate, withheld, balanceOf, mostTonnes}
 use Rattle.balance.proofs.Bounds.{held-size, date-size}
@@ -39,7 +39,7 @@ module _ (c : tie.After-terms-to-date) where
   abbrev terms : ℕ → ℤ
   terms last = termsToDate (now (start .args .listing)) (start .args .year) last
 
-  bounded : (last : ℕ) → natAbs (terms last) ≤ mostTermsBelow
+  bounded : (last : ℕ) → natAbs (terms last) ≤ mostTermSumBelow
   bounded last = terms-size (now (start .args .listing)) (start .args .year) last (start .pre .0)
 
   all : toZ w64 (ofZ w64 (c .terms-to-date .result .all)) ≡ terms 8

@@ -9,14 +9,14 @@ use Rattle.words.specs.Sums.{sumBelow}
 use Rattle.words.proofs.Sums.{sum-none}
 use Rattle.fields.specs.declared.Head.{Head}
 use Rattle.listing.specs.Layout.{cells}
-use Rattle.book.specs.Current.{current, kgTo}
+use Rattle.book.specs.Current.{current, kgToDate}
 use Rattle.book.proofs.Sound.{sound-cell}
 use Rattle.balance.proofs.Bounds.{kg-words, kg-next}
 use Rattle.balance.proofs.kg_to_date.Statement.{statement}
 use Rattle.balance.proofs.kg_to_date.Tie as tie
 
 abbrev Inv-loop : tie.InvT-loop
-Inv-loop listing book h cells kg₀ i₀ kg i = (i ≤ cells) × (kg ≡ sumBelow (kgTo listing book) i)
+Inv-loop listing book h cells kg₀ i₀ kg i = (i ≤ cells) × (kg ≡ sumBelow (kgToDate listing book) i)
 
 abbrev μ-loop : tie.MeasureT-loop
 μ-loop listing book h cells kg₀ i₀ kg i = cells - i
@@ -53,7 +53,7 @@ kg-of-requires c κs =
 
 iterations : (c : tie.After-kg-of Inv-loop μ-loop) →
     let a = c .before .before .before .before in
-    (a .loop .kg + c .kg-of .result ≡ sumBelow (kgTo (l a) (b a)) (a .loop .i + 1)) × (a .loop .kg + c .kg-of .result < 2 ^ 64)
+    (a .loop .kg + c .kg-of .result ≡ sumBelow (kgToDate (l a) (b a)) (a .loop .i + 1)) × (a .loop .kg + c .kg-of .result < 2 ^ 64)
 iterations c =
     let a = c .before .before .before .before in
     kg-next (l a) (b a) (start a .pre) (a .before .before .head .ensures) (c .before .before .cell .ensures) (c .before .words-of .ensures) (below (c .before .before .before))
@@ -67,7 +67,7 @@ returns : tie.Need-returns Inv-loop μ-loop
 returns c =
     let a = c .before in
     let all : a .loop .i ≡ cells (l a) = omega (arith, count a, a .loop .inv .0, c .loop-test .left) in
-    a .loop .inv .1 ∙ ap (sumBelow (kgTo (l a) (b a))) all
+    a .loop .inv .1 ∙ ap (sumBelow (kgToDate (l a) (b a))) all
 
 pub kg-to-date-spec : {M : Type 1} → statement M
 kg-to-date-spec =

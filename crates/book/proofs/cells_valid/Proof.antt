@@ -8,14 +8,14 @@ use Rattle.words.proofs.Steps.{ValidSoFar, so-far-all}
 use Rattle.fields.specs.declared.Head.{Head}
 use Rattle.listing.specs.Layout.{head, cells}
 use Rattle.book.specs.Layout.{entryAt}
-use Rattle.book.specs.Check.{bookValid}
+use Rattle.book.specs.Check.{bookWordValid}
 use Rattle.book.proofs.Search.{cells-begin-so-far, cell-sized, cell-so-far}
 use Rattle.book.proofs.Sound.{fitted-cell}
 use Rattle.book.proofs.cells_valid.Statement.{statement}
 use Rattle.book.proofs.cells_valid.Tie as tie
 
 abbrev Inv-loop : tie.InvT-loop
-Inv-loop s listing h book end cells valid₀ i₀ valid i = (cells ≡ head listing .cells) × (i ≤ cells) × ValidSoFar (bookValid s listing book) (s .head) end (entryAt s i) valid
+Inv-loop s listing h book end cells valid₀ i₀ valid i = (cells ≡ head listing .cells) × (i ≤ cells) × ValidSoFar (bookWordValid s listing book) (s .head) end (entryAt s i) valid
 
 abbrev μ-loop : tie.MeasureT-loop
 μ-loop s listing h book end cells valid₀ i₀ valid i = cells - i

@@ -12,7 +12,7 @@ asked c κs =
     let head = c .before .before in
     (head .before .before .before .pre, head .head .ensures, rw (c .entry-at .ensures, head .head .ensures))
 
--- by name, so that another place or another test is refused in its own place
+-- by name, so that a wrong place or a wrong test is reported at this return
 invalid : tie.Need-returns
 unfolding bookChecked
 invalid c =

@@ -8,7 +8,7 @@ use Rattle.words.proofs.Steps.{Passed, passed-all}
 use Rattle.fields.specs.declared.Head.{Head}
 use Rattle.listing.specs.Layout.{head, cells}
 use Rattle.book.specs.Layout.{entryAt}
-use Rattle.book.specs.Check.{bookValid}
+use Rattle.book.specs.Check.{bookWordValid}
 use Rattle.book.proofs.Places.{size-small}
 use Rattle.book.proofs.Search.{cells-begin, cell-sized, cell-stop, cell-more}
 use Rattle.book.proofs.Sound.{fitted-cell}
@@ -16,7 +16,7 @@ use Rattle.book.proofs.first_invalid_cell_word.Statement.{statement}
 use Rattle.book.proofs.first_invalid_cell_word.Tie as tie
 
 abbrev Inv-loop : tie.InvT-loop
-Inv-loop s listing h book end cells i₀ i = (cells ≡ head listing .cells) × (i ≤ cells) × Passed (bookValid s listing book) (s .head) end (entryAt s i)
+Inv-loop s listing h book end cells i₀ i = (cells ≡ head listing .cells) × (i ≤ cells) × Passed (bookWordValid s listing book) (s .head) end (entryAt s i)
 
 abbrev μ-loop : tie.MeasureT-loop
 μ-loop s listing h book end cells i₀ i = cells - i
@@ -46,7 +46,7 @@ at-fits c =
     let g = at .pre .0 .shaped in
     omega (arith, c .entry-at .ensures, c .before .if1 .taken, size-small (at .args .s) g (n .before .loop .i) (fitted-cell _ _ _ (at .pre .0) _ (there n) .small), g .head .1, g .entry .most)
 
--- by name, so that another place or another test is refused in its own place
+-- by name, so that a wrong place or a wrong test is reported at this return
 stop : tie.Need-returns Inv-loop μ-loop
 stop c =
     let found = c .before .before .before in

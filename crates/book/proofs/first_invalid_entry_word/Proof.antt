@@ -6,7 +6,7 @@ use lib.ListN.{length}
 use denote.Ref.{now}
 use borrow.Author.Needs.{needs}
 use Rattle.words.proofs.Steps.{Passed, passed-none, passed-on, passed-failed, passed-all}
-use Rattle.book.specs.Check.{entryValid}
+use Rattle.book.specs.Check.{entryWordValid}
 use Rattle.book.proofs.first_invalid_entry_word.Statement.{statement}
 use Rattle.book.proofs.first_invalid_entry_word.Tie as tie
 
@@ -18,37 +18,37 @@ module _ (c : tie.Else1) where
   abbrev start : tie.Start
   start = c .before .before .before .before
 
-  one : Passed (entryValid (start .args .h) (start .args .c) (now (start .args .entry))) 0 (length (now (start .args .entry))) 1
-  unfolding entryValid
+  one : Passed (entryWordValid (start .args .h) (start .args .c) (now (start .args .entry))) 0 (length (now (start .args .entry))) 1
+  unfolding entryWordValid
   one = passed-on _ passed-none (omega (arith, enough start)) (c .before .is-plan-word .ensures) (c .if1 .left)
 
 module _ (c : tie.Else2) where
   abbrev first : tie.Else1
   first = c .before .before .before
 
-  two : Passed (entryValid (start first .args .h) (start first .args .c) (now (start first .args .entry))) 0 (length (now (start first .args .entry))) 2
-  unfolding entryValid
+  two : Passed (entryWordValid (start first .args .h) (start first .args .c) (now (start first .args .entry))) 0 (length (now (start first .args .entry))) 2
+  unfolding entryWordValid
   two = passed-on _ (one first) (omega (arith, enough (start first))) (c .before .is-kind .ensures) (c .if2 .left)
 
 no-plan : tie.Need-returns
-unfolding entryValid
+unfolding entryWordValid
 no-plan c = passed-failed _ passed-none (omega (arith, enough (c .before .before .before .before))) (c .before .is-plan-word .ensures) (c .if1 .taken)
 
 no-oxidised : tie.Need-returns-2
-unfolding entryValid
+unfolding entryWordValid
 no-oxidised c =
     let first = c .before .before .before in
     passed-failed _ (one first) (omega (arith, enough (start first))) (c .before .is-kind .ensures) (c .if2 .taken)
 
 no-burned : tie.Need-returns-3
-unfolding entryValid
+unfolding entryWordValid
 no-burned c =
     let most = c .before .before in
     let second = most .before .before .before in
     passed-failed _ (two second) (omega (arith, enough (start (first second)))) (rw (most .most-loss .ensures) at (c .before .is-burned-word .ensures)) (c .if3 .taken)
 
 all-valid : tie.Need-returns-4
-unfolding entryValid
+unfolding entryWordValid
 all-valid c =
     let most = c .before .before in
     let second = most .before .before .before in

@@ -12,4 +12,4 @@ is-plan-word-spec =
     (λ c κs. search needs)
     (λ c κs. search needs)
     (λ c κs. search needs)
-    (λ c. rw (c .before .before .is-kind .ensures, c .before .bits .ensures, c .between .ensures)))
+    (λ c. rw (c .before .before .is-kind .ensures, c .before .bits .ensures, c .bits-within .ensures)))

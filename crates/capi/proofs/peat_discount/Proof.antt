@@ -1,4 +1,4 @@
--- `capi::peat_discount` meets its contract: the answer is sent as it is. Assumes nothing.
+-- `capi::peat_discount` meets its contract: the answer is exported as it is. Assumes nothing.
 use borrow.Author.Needs.{needs}
 use Rattle.capi.proofs.peat_discount.Statement.{statement}
 use Rattle.capi.proofs.peat_discount.Tie as tie

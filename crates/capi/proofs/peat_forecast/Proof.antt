@@ -1,4 +1,4 @@
--- `capi::peat_forecast` meets its contract: the answer is sent as it is, and both slices are as the call leaves them. Assumes nothing.
+-- `capi::peat_forecast` meets its contract: the answer is exported as it is, and both slices are as the call leaves them. Assumes nothing.
 use borrow.Author.Needs.{needs}
 use mathlib.Core.Path.{ap, _∙_}
 use Rattle.words.proofs.Effect.{effect-answer, effect-book, effect-output}

@@ -1,4 +1,4 @@
--- `capi::peat_withdraw` meets its contract: the answer is sent as it is, and the book is as the call leaves it. Assumes nothing.
+-- `capi::peat_withdraw` meets its contract: the answer is exported as it is, and the book is as the call leaves it. Assumes nothing.
 use borrow.Author.Needs.{needs}
 use mathlib.Core.Path.{ap, _∙_}
 use Rattle.words.proofs.Effect.{effect-answer, effect-book}

@@ -29,7 +29,7 @@ inactive-returns c =
     let stays = step-inactive _ (s .args .entry .now) (s .pre .2) _ (cell .cell .ensures) _ (cell .before .entry-of .ensures) (sym (test .before .inactive .ensures) ∙ test .if1 .taken) in
     (c .no-loss .ensures ∙ stays .0, put .put-entry .ensures ∙ ap (heldWords _) (stays .1))
 
--- ---- one that does not
+-- ---- an active cell
 
 kg-of-requires : tie.Need-kg-of-requires
 kg-of-requires c κs = let cell = c .before .before .before in rw (cell .cell .ensures) (start cell .pre .0)

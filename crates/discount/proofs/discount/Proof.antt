@@ -41,12 +41,12 @@ discount-spec =
     (λ c. search answers)
     (λ c κs. valid c .0)
     (λ c κs. valid (c .before) .1)
-    (λ c. let q = c .before .squared .ensures .1 in let p = c .squared2 .ensures .1 in omega arith)
+    (λ c. let q = c .before .sum-of-squares .ensures .1 in let p = c .sum-of-squares2 .ensures .1 in omega arith)
     (λ c κs. search answers)
     (λ c κs.
     let k = valid (c .before .before .before) in
-    let q = c .before .before .squared .ensures .1 in
-    let p = c .before .squared2 .ensures .1 in
+    let q = c .before .before .sum-of-squares .ensures .1 in
+    let p = c .before .sum-of-squares2 .ensures .1 in
     (omega arith, omega (arith, apart c, distance-le _ _ (k .2) (k .3))))
     (λ c.
     let d = c .before in
@@ -58,4 +58,4 @@ discount-spec =
     (need-next _ _ _ _ _ (k .1 .values-at-most)
     (need-next _ _ _ _ _ (k .2 .values-at-most)
     (need-next _ _ _ _ _ (k .3 .values-at-most)
-    (ap accepted (c .factor .ensures ∙ ap₂ factor (ap₂ _+_ (d .before .before .squared .ensures .0) (d .before .squared2 .ensures .0)) (apart d)))))))))
+    (ap accepted (c .factor .ensures ∙ ap₂ factor (ap₂ _+_ (d .before .before .sum-of-squares .ensures .0) (d .before .sum-of-squares2 .ensures .0)) (apart d)))))))))

@@ -1,4 +1,4 @@
--- `discount::nearer` meets its contract: a quotient is not above its dividend, so the sum fits. Assumes nothing.
+-- `discount::newton_step` meets its contract: a quotient is not above its dividend, so the sum fits. Assumes nothing.
 use borrow.Author.Needs.{needs}
 use native.Mathlib.Nat.{div-le-self}
 use native.Mathlib.Omega.{arith}

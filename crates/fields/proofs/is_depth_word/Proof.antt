@@ -13,4 +13,4 @@ is-depth-word-spec =
     (λ c κs. search needs)
     (λ c κs. search needs)
     (λ c κs. search needs)
-    (λ c. rw (c .before .before .before .is-kind .ensures, c .before .before .bits .ensures, c .before .between .ensures, c .between2 .ensures)))
+    (λ c. rw (c .before .before .before .is-kind .ensures, c .before .before .bits .ensures, c .before .bits-within .ensures, c .bits-within2 .ensures)))

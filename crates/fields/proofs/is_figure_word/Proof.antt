@@ -14,4 +14,10 @@ is-figure-word-spec =
     (λ c κs. search needs)
     (λ c κs. search needs)
     (λ c κs. search needs)
-    (λ c. rw (c .before .before .before .before .is-kind .ensures, c .before .before .before .bits .ensures, c .before .before .between .ensures, c .before .between2 .ensures, c .between3 .ensures)))
+    (λ c. rw (
+      c .before .before .before .before .is-kind .ensures,
+      c .before .before .before .bits .ensures,
+      c .before .before .bits-within .ensures,
+      c .before .bits-within2 .ensures,
+      c .bits-within3 .ensures,
+    )))

@@ -13,4 +13,4 @@ is-size-word-spec =
     (λ c κs. search needs)
     (λ c κs. search needs)
     (λ c κs. search needs)
-    (λ c. rw (c .before .before .before .is-kind .ensures, c .before .before .between .ensures, c .before .between2 .ensures, c .between3 .ensures)))
+    (λ c. rw (c .before .before .before .is-kind .ensures, c .before .before .bits-within .ensures, c .before .bits-within2 .ensures, c .bits-within3 .ensures)))

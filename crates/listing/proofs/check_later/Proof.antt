@@ -10,7 +10,7 @@ use Rattle.listing.specs.Check.{laterChecked}
 use Rattle.listing.proofs.check_later.Statement.{statement}
 use Rattle.listing.proofs.check_later.Tie as tie
 
--- by name, so that another place or another test is refused in its own place
+-- by name, so that a wrong place or a wrong test is reported at this return
 short : tie.Need-returns
 unfolding laterChecked
 short c =

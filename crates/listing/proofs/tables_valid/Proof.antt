@@ -6,12 +6,12 @@ use lib.Bits.{bitOr}
 use Rattle.words.specs.Bits.{isKind}
 use Rattle.words.proofs.Steps.{ValidSoFar, so-far-none, so-far-more, so-far-all, steps}
 use Rattle.fields.proofs.SameKind.{joined-kind}
-use Rattle.listing.specs.Check.{tableValid}
+use Rattle.listing.specs.Check.{tableWordValid}
 use Rattle.listing.proofs.tables_valid.Statement.{statement}
 use Rattle.listing.proofs.tables_valid.Tie as tie
 
 abbrev Inv-loop : tie.InvT-loop
-Inv-loop listing start end faults₀ at₀ faults at = (at ≤ end) × ValidSoFar (tableValid listing) start end at (isKind 0 faults)
+Inv-loop listing start end faults₀ at₀ faults at = (at ≤ end) × ValidSoFar (tableWordValid listing) start end at (isKind 0 faults)
 
 abbrev μ-loop : tie.MeasureT-loop
 μ-loop listing start end faults₀ at₀ faults at = end - at
@@ -30,7 +30,7 @@ faults-more faults fault p h e =
           more .passed (both-true _ _ (kinds .0) (kinds .1));
     }
 
--- by name, so that another place or another test is refused in its own place
+-- by name, so that a wrong place or a wrong test is reported at this return
 again : tie.Need-loop-again Inv-loop μ-loop
 again c = (search steps, faults-more _ _ (c .before .before .before .loop .inv .1) (search steps) (c .table-fault .ensures))
 

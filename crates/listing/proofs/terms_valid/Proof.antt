@@ -11,7 +11,7 @@ use Rattle.words.proofs.Answers.{and-left}
 use Rattle.words.proofs.Steps.{ValidSoFar, so-far-none, so-far-more, so-far-all, steps}
 use Rattle.fields.specs.Valid.{termOrder}
 use Rattle.fields.proofs.Valid.{above-order}
-use Rattle.listing.specs.Check.{termValid, termAbove}
+use Rattle.listing.specs.Check.{termWordValid, termAbove}
 use Rattle.listing.proofs.terms_valid.Statement.{statement}
 use Rattle.listing.proofs.terms_valid.Tie as tie
 
@@ -21,7 +21,7 @@ with-test valid b p = record { passed = λ t. p .passed (and-left valid b t) }
 
 abbrev Inv-loop : tie.InvT-loop
 Inv-loop listing horizon start valid₀ last₀ at₀ valid last at =
-    (start < at) × (at ≤ length listing) × (last ≡ termOrder (getD listing (at - 1) 0)) × ValidSoFar (termValid listing horizon) start (length listing) at valid
+    (start < at) × (at ≤ length listing) × (last ≡ termOrder (getD listing (at - 1) 0)) × ValidSoFar (termWordValid listing horizon) start (length listing) at valid
     × ValidSoFar (termAbove listing) (start + 1) (length listing) at valid
 
 abbrev μ-loop : tie.MeasureT-loop
@@ -44,7 +44,7 @@ loop-holds c =
       so-far-none,
     )
 
--- by name, so that another place or another test is refused in its own place
+-- by name, so that a wrong place or a wrong test is reported at this return
 loop-again : tie.Need-loop-again Inv-loop μ-loop
 loop-again c =
     let order = c .before .before in

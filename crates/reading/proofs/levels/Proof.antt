@@ -14,13 +14,13 @@ levels-spec =
     tie.close
     (tie.spec
     (λ c κs. search needs)
-    (λ c κs. λ y. absurd (false≢true (sym (flag-false _ _ (c .before .is-level .ensures) (c .if1 .taken)) ∙ y)))
+    (λ c κs. λ y. absurd (false≢true (sym (flag-false _ _ (c .before .in-level .ensures) (c .if1 .taken)) ∙ y)))
     (λ c. search needs)
     (λ c κs. search needs)
-    (λ c κs. λ y. flag-false _ _ (c .before .is-level2 .ensures) (c .if2 .taken))
+    (λ c κs. λ y. flag-false _ _ (c .before .in-level2 .ensures) (c .if2 .taken))
     (λ c. search needs)
-    (λ c κs. let e = c .before .before in flag-true _ _ (e .before .is-level .ensures) (e .if1 .left))
-    (λ c κs. let e = c .before in flag-true _ _ (e .before .is-level2 .ensures) (e .if2 .left))
+    (λ c κs. let e = c .before .before in flag-true _ _ (e .before .in-level .ensures) (e .if1 .left))
+    (λ c κs. let e = c .before in flag-true _ _ (e .before .in-level2 .ensures) (e .if2 .left))
     (λ c κs. search needs)
     (λ c. search depths depth 8 fits 9000)
     (λ c κs. search needs)

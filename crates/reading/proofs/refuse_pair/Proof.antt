@@ -21,4 +21,4 @@ refuse-pair-spec =
     (λ c κs. search needs)
     (λ c. search depths depth 8 fits 9000)
     (λ c κs. search needs)
-    (λ c. let e = c .before in let base = e .before .before .before .before .before .before .pre (flag-true _ _ (e .before .is-level .ensures) (e .if3 .left)) in search depths depth 8 fits 9000))
+    (λ c. let e = c .before in let base = e .before .before .before .before .before .before .pre (flag-true _ _ (e .before .in-level .ensures) (e .if3 .left)) in search depths depth 8 fits 9000))

@@ -9,5 +9,5 @@ tonnes-spec =
     tie.close
     (tie.spec
     (λ c κs. search needs)
-    (λ c. tonnes-fit _ _ (c .before .before .term-of .ensures))
-    (λ c. tonnes-are _ _ (c .before .before .term-of .ensures)))
+    (λ c. tonnes-fit _ _ (c .before .before .yearly-term-of .ensures))
+    (λ c. tonnes-are _ _ (c .before .before .yearly-term-of .ensures)))

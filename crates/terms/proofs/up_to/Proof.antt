@@ -14,5 +14,5 @@ up-to-spec =
     (tie.spec
     (λ c κs. search needs)
     (λ c κs. search needs)
-    (λ c. call-reads w64 (c .tonnes .ok) (c .tonnes .ensures) ∙ within-last _ _ (c .before .before .before .term-of .ensures) _ (omega (arith, c .before .if1 .taken)))
-    (λ c. after-last _ _ (c .before .before .term-of .ensures) _ (omega (arith, c .if1 .left))))
+    (λ c. call-reads w64 (c .tonnes .ok) (c .tonnes .ensures) ∙ within-last _ _ (c .before .before .before .yearly-term-of .ensures) _ (omega (arith, c .before .if1 .taken)))
+    (λ c. after-last _ _ (c .before .before .yearly-term-of .ensures) _ (omega (arith, c .if1 .left))))

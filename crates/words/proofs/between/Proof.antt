@@ -1,9 +1,0 @@
--- `words::between` meets its contract: its two tests are the definition's. Assumes nothing.
-use borrow.Author.Needs.{needs}
-use Rattle.words.specs.Bits.{within}
-use Rattle.words.proofs.between.Statement.{statement}
-use Rattle.words.proofs.between.Tie as tie
-
-pub between-spec : {M : Type 1} → statement M
-unfolding within
-between-spec = tie.close (tie.spec (λ c κs. search needs) (λ c. rw (c .bits .ensures)))
