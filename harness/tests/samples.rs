@@ -87,7 +87,7 @@ fn the_converter_complains() {
         ),
         (
             "3460B554 age 1",
-            "behind a word only a remark may stand, and a remark begins with #",
+            "only a remark may follow a word, and a remark begins with #",
         ),
         (
             "3460B554,3460B400",

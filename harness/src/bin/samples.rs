@@ -242,7 +242,7 @@ const REFUSED_4: &str = "\
 Refused by number 4 at place 4: the cell's conversion year is 3, and the horizon is 2.";
 
 const REFUSED_5: &str = "\
-Refused by number 5 at place 8: terms rise by year, then by term, and term 1 of year 2 stands after its term 4.";
+Refused by number 5 at place 8: terms rise by year, then by term, and term 1 of year 2 comes after its term 4.";
 
 const EMPTY_ABOUT: &str = "\
 No bytes at all: a listing of no words, refused by number 1 at place 0.";

@@ -17,11 +17,11 @@ pub fn is_finite(number: f32) -> bool {
 }
 
 /// The value of a finite binary32, sign × mantissa × 2^exponent, as a fraction. The exponent is
-/// from −149 to 104, but is held to −100 to 60 so that all fits i128. No answer changes by this:
-/// - a value with an exponent below −100 is nearer to 0 than 2^−76, and so is the one held to
+/// from −149 to 104, but is limited to −100 to 60 so that all fits i128. No answer changes by this:
+/// - a value with an exponent below −100 is nearer to 0 than 2^−76, and so is the one limited to
 ///   −100. Both are 0, or both above 0, or both below 0; so 1,000 times either has the same floor
 ///   (0 or −1), and both lie on the same side of every range end, which are whole numbers.
-/// - a value with an exponent above 60 is further from 0 than 2^60, and so is the one held to 60.
+/// - a value with an exponent above 60 is further from 0 than 2^60, and so is the one limited to 60.
 ///   Both have the same sign, and no range reaches so far.
 fn fraction(number: f32) -> Fraction {
     let word = number.to_bits();
