@@ -12,13 +12,13 @@ use Rattle.words.proofs.Answers.{cond-both}
 
 -- ---- a slice after a call that was accepted, and after one that was not
 
-pub written-new : (a : Answer) (old new : List ℕ) → a .done ≡ true → written a old new ≡ new
-unfolding written
-written-new a old new e = ap (λ (t : Bool). cond t new old) e
-
 pub written-old : (a : Answer) (old new : List ℕ) → a .done ≡ false → written a old new ≡ old
 unfolding written
 written-old a old new e = ap (λ (t : Bool). cond t new old) e
+
+pub written-new : (a : Answer) (old new : List ℕ) → a .done ≡ true → written a old new ≡ new
+unfolding written
+written-new a old new e = ap (λ (t : Bool). cond t new old) e
 
 -- after two calls that were both accepted or both not
 pub written-both : (R : List ℕ → List ℕ → Type 0) (a a′ : Answer) (old new old′ new′ : List ℕ) → a .done ≡ a′ .done → R old old′ → (a .done ≡ true → R new new′) →
