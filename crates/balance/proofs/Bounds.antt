@@ -18,32 +18,32 @@ use Rattle.terms.specs.Terms.{termsToDate, mostTermSum, mostTermSumBelow}
 use Rattle.terms.proofs.Sums.{terms-size, terms-most}
 use Rattle.year.specs.Year.{kgOf, mostEmission}
 use Rattle.year.proofs.Laws.{emission-most}
-use Rattle.book.specs.Current.{current, issued, wordsOf, kgToDate, Sound}
+use Rattle.book.specs.Current.{current, issued, wordsOf, kgToDate, AcceptedBook}
 use Rattle.book.specs.Layout.{issuedWords, year, entryOf}
-use Rattle.book.specs.Sound.{CellWordsValid}
+use Rattle.book.specs.AcceptedBook.{CellWordsValid}
 use Rattle.balance.specs.Balance.{peatTonnes, mostPeat, toDate, withheld, balanceOf, balance, mostBalance, mostTonnes, due, balanceIn, tonnesDue}
 
 -- ---- peat: each cell has its most
-module _ (l b : List ℕ) (sound : Sound l b) where
+module _ (l b : List ℕ) (accepted-book : AcceptedBook l b) where
   pub kg-most : (n : ℕ) → n ≤ cells l → sumBelow (kgToDate l b) n ≤ mostEmission * n
-  kg-most n h = sum-most (kgToDate l b) mostEmission n (λ i p. emission-most (sound .words-valid i (omega arith) .fit))
+  kg-most n h = sum-most (kgToDate l b) mostEmission n (λ i p. emission-most (accepted-book .words-valid i (omega arith) .fit))
 
   pub peat-most : peatTonnes l (kgToDate l b) ≤ mostPeat
   unfolding peatTonnes
-  peat-most = let cells-most = sound .fitted .accepted .head-valid .cells .1 in omega (arith, kg-most (cells l) (omega arith))
+  peat-most = let cells-most = accepted-book .fitted .accepted .head-valid .cells .1 in omega (arith, kg-most (cells l) (omega arith))
 
 -- an iteration of the sum: h, c, w and r are what the calls for the head, cell i, its words in the book and its kg to date answered
-module _ (l b : List ℕ) (sound : Sound l b) {h : Head} {i : ℕ} {c : Cell} {w : List ℕ}
+module _ (l b : List ℕ) (accepted-book : AcceptedBook l b) {h : Head} {i : ℕ} {c : Cell} {w : List ℕ}
     (ph : h ≡ head l) (pc : c ≡ cell l i) (pw : w ≡ wordsOf b i) (lt : i < cells l) where
   pub kg-words : CellWordsValid h c w
-  kg-words = rw (ph, pc, pw) (sound .words-valid i lt)
+  kg-words = rw (ph, pc, pw) (accepted-book .words-valid i lt)
 
   -- kg is the sum so far: with r it is that of one cell more, and fits
   pub kg-next : {kg r : ℕ} → kg ≡ sumBelow (kgToDate l b) i → r ≡ kgOf h c (entryOf w) → (kg + r ≡ sumBelow (kgToDate l b) (i + 1)) × (kg + r < 2 ^ 64)
   kg-next {kg} {r} pk pr =
-      let cells-most = sound .fitted .accepted .head-valid .cells .1 in
+      let cells-most = accepted-book .fitted .accepted .head-valid .cells .1 in
       let adds : kg + r ≡ sumBelow (kgToDate l b) (i + 1) = sum-next (kgToDate l b) i pk (rw (pr, ph, pc, pw)) in
-      (adds, omega (arith, kg-most l b sound (i + 1) (omega arith)))
+      (adds, omega (arith, kg-most l b accepted-book (i + 1) (omega arith)))
 
 -- ---- the balance
 pub held-size : (p : ℕ) (s : ℤ) → p ≤ mostBuffer → withheld p s ≤ natAbs s
@@ -75,8 +75,8 @@ balance-by l l′ t t′ kg kg′ p q buffer terms = rw (p, q, terms t′ 8, ter
 pub balance-same : (l : List ℕ) (t u : ℕ) (f g : ℕ → ℕ) → t ≡ u → ((i : ℕ) → i < cells l → f i ≡ g i) → balance l t f ≡ balance l u g
 balance-same l t u f g p q = balance-by l l t u f g p (sum-same f g (cells l) q) refl (λ v last. refl)
 
--- by a sound book it fits an i64, and an issue of it a word
-pub balance-fits : (l b : List ℕ) → Sound l b → (natAbs (balanceIn l b) ≤ mostTonnes) × (atLeast0 (balanceIn l b) ≤ mostBalance)
+-- by an accepted book it fits an i64, and an issue of it a word
+pub balance-fits : (l b : List ℕ) → AcceptedBook l b → (natAbs (balanceIn l b) ≤ mostTonnes) × (atLeast0 (balanceIn l b) ≤ mostBalance)
 balance-fits l b s =
     let a = s .fitted .accepted in
     let peat = peatTonnes l (kgToDate l b) in
@@ -88,5 +88,5 @@ pub issue-max : (z : ℤ) (tonnes : ℕ) → tonnes + due z tonnes ≡ max (atLe
 unfolding due
 issue-max z tonnes = omega (arith, atLeast0-less z tonnes)
 
-pub issued-fits : (l b : List ℕ) → Sound l b → issued b + tonnesDue l b < 2 ^ (28 * issuedWords current)
+pub issued-fits : (l b : List ℕ) → AcceptedBook l b → issued b + tonnesDue l b < 2 ^ (28 * issuedWords current)
 issued-fits l b s = omega (arith, s .issued, issue-max (balanceIn l b) (issued b), balance-fits l b s .1)

@@ -9,13 +9,13 @@ ghost use Rattle.fields.specs.Words.{mostBuffer};
 ghost use Rattle.listing.specs.Layout.{cells};
 ghost use Rattle.listing.specs.Accepted.{Accepted};
 ghost use Rattle.terms.specs.Terms.{mostTermSumBelow};
-ghost use Rattle.book.specs.Current.{kgToDate, Sound};
+ghost use Rattle.book.specs.Current.{kgToDate, AcceptedBook};
 ghost use Rattle.balance.specs.Balance.{peatTonnes, mostPeat, withheld, balanceOf, mostBalance, mostTonnes, due, tonnesDue};
 use book::BOOK;
 
 // The kg to date of all cells, added.
 fn kg_to_date(listing: &[u32], book: &[u32]) -> u64
-    requires { ⌜ Sound (now listing) (now book) ⌝ }
+    requires { ⌜ AcceptedBook (now listing) (now book) ⌝ }
     ensures { λ r. ⌜ r ≡ sumBelow (kgToDate (now (listing .entry)) (now (book .entry))) (cells (now (listing .entry))) ⌝ }
 {
     let h = listing::head(listing);
@@ -32,7 +32,7 @@ fn kg_to_date(listing: &[u32], book: &[u32]) -> u64
 
 // Peat tonnes to date: term 2.
 fn peat_tonnes(listing: &[u32], book: &[u32]) -> u64
-    requires { ⌜ Sound (now listing) (now book) ⌝ }
+    requires { ⌜ AcceptedBook (now listing) (now book) ⌝ }
     ensures { λ r. ⌜ r ≡ peatTonnes (now (listing .entry)) (kgToDate (now (listing .entry)) (now (book .entry))) ⌝ }
 {
     kg_to_date(listing, book) / 1000
@@ -83,7 +83,7 @@ fn due(balance: i64, issued: u64) -> u32
 
 // What an issue on this book pays.
 pub fn tonnes_due(listing: &[u32], book: &[u32]) -> u32
-    requires { ⌜ Sound (now listing) (now book) ⌝ }
+    requires { ⌜ AcceptedBook (now listing) (now book) ⌝ }
     ensures { λ r. ⌜ r ≡ tonnesDue (now (listing .entry)) (now (book .entry)) ⌝ }
 {
     let peat = peat_tonnes(listing, book);

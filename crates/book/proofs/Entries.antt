@@ -17,13 +17,13 @@ use Rattle.fields.specs.declared.Cell.{Cell}
 use Rattle.year.specs.declared.Entry.{Entry}
 use Rattle.book.specs.Layout.{yearKind, issuedKind, Shaped, entryAt, yearAt, issuedAt, issuedWords, year, issued, entryOf, wordsOf, entry, stored, withYear, withIssued, planWord, withPlan}
 use Rattle.book.specs.Check.{entryWordValid}
-use Rattle.book.specs.Sound.{CellInBook, All}
+use Rattle.book.specs.AcceptedBook.{CellInBook, All}
 use Rattle.book.specs.declared.Shape.{Shape}
 use Rattle.book.proofs.Places.{entry-before}
 use Rattle.book.proofs.Words.{plan-of, mark-of, plan-valid}
 use Rattle.book.proofs.Numbers.{joined-same, joined-beside, joined-stored, stored-keeps}
 use Rattle.book.proofs.Valid.{entry-rest}
-use Rattle.book.proofs.Sound.{words-long}
+use Rattle.book.proofs.AcceptedBook.{words-long}
 
 -- the word at offset j of cell i, by its place in the book
 pub entry-word : (s : Shape) (b : List ℕ) (i j : ℕ) → j < s .entry → getD (wordsOf s b i) j 0 ≡ getD b (entryAt s i + j) 0

@@ -15,11 +15,11 @@ use Rattle.year.proofs.Laws.{most-entered}
 use Rattle.book.specs.Layout.{oxidisedKind, burnedKind, Sized, Shaped, entryOf, heldWords}
 use Rattle.book.specs.Check.{entryWordValid}
 use Rattle.book.specs.Held.{heldAt}
-use Rattle.book.specs.Sound.{All, Storable, EntryValid}
+use Rattle.book.specs.AcceptedBook.{All, Storable, EntryValid}
 use Rattle.book.specs.declared.Shape.{Shape}
 use Rattle.book.proofs.Words.{payload-of, plan-of, mark-of, plan-valid, oxidised-valid, burned-valid}
 use Rattle.book.proofs.Valid.{entry-all}
-use Rattle.book.proofs.Sound.{by-size}
+use Rattle.book.proofs.AcceptedBook.{by-size}
 
 -- they are as many as asked
 pub held-sized : (n : ℕ) (e : Entry) → Sized n → length (heldWords n e) ≡ n

@@ -12,11 +12,11 @@ use Rattle.year.specs.declared.Entry.{Entry}
 use Rattle.book.specs.Layout.{yearKind, issuedKind, Shaped, entryAt, yearAt, issuedAt, issuedWords, year, issued, entry, withYear, withIssued, planWord, withPlan}
 use Rattle.book.specs.Check.{admitted}
 use Rattle.book.specs.Held.{heldAt, Holds}
-use Rattle.book.specs.Sound.{EntryValid}
+use Rattle.book.specs.AcceptedBook.{EntryValid}
 use Rattle.book.specs.declared.Shape.{Shape}
 use Rattle.book.proofs.Numbers.{joined-kept}
 use Rattle.book.proofs.Valid.{admitted-valid}
-use Rattle.book.proofs.Sound.{fitted-cell, sound}
+use Rattle.book.proofs.AcceptedBook.{fitted-cell, accepted-book}
 use Rattle.book.proofs.Held.{held-at-sized, held-at-valid, held-at-entry}
 use Rattle.book.proofs.Entries.{year-put, issued-put, year-issued, issued-year, entry-stored, replaced, entry-put, year-filled, issued-filled, entry-filled}
 use Rattle.book.proofs.Keeps.{admitted-fitted, admitted-capacity, horizon-small, year-admits, issued-admits, plan-admits, filled-admits}
@@ -66,14 +66,14 @@ module _ {s : Shape} (g : Shaped s) {l b : List ℕ} {t n : ℕ} {entries : ℕ 
         issued-is = joined-kept b (entryAt s i) (planWord (new .withdrawn) (new .plan)) issuedAt (issuedWords s) (λ q. omega (arith, capacity)) ∙ holds .issued-is;
         entry-is =
             λ j lt.
-            entry-put s b i new j (fitted-cell s l b (sound s l b g (holds .admits) .fitted) j lt) (omega (arith, small))
+            entry-put s b i new j (fitted-cell s l b (accepted-book s l b g (holds .admits) .fitted) j lt) (omega (arith, small))
             ∙ ap (λ (e : Entry). cond (eqb i j) (replaced e (new .withdrawn) (new .plan)) e) (holds .entry-is j lt);
       }
 
   -- another entry for every cell
   pub holds-entries : (e : ℕ → Entry) → ((i : ℕ) → i < cells l → EntryValid (head l) (cell l i) (e i)) → Holds s l (filled (s .entry) b (s .head) (heldAt s e) (cells l)) t n e
   holds-entries e valid =
-      let a = sound s l b g (holds .admits) .fitted .accepted in
+      let a = accepted-book s l b g (holds .admits) .fitted .accepted in
       let sized = held-at-sized s g e in
       record {
         admits = filled-admits s g l b (admitted-fitted s l b (holds .admits)) (admitted-valid s l b (holds .admits) .head-words) (heldAt s e) sized (held-at-valid s g e l a valid);

@@ -17,12 +17,12 @@ use Rattle.listing.specs.Layout.{head, cells, horizon, cell}
 use Rattle.year.specs.declared.Entry.{Entry}
 use Rattle.book.specs.Layout.{yearKind, issuedKind, Shaped, entryAt, bookSize, yearAt, issuedAt, issuedWords, stored, withYear, withIssued, planWord, withPlan}
 use Rattle.book.specs.Check.{isHeadWord, headWordValid, entryWordValid, capacityChecked, fitted, admitted}
-use Rattle.book.specs.Sound.{All, WordsValid}
+use Rattle.book.specs.AcceptedBook.{All, WordsValid}
 use Rattle.book.specs.declared.Shape.{Shape}
 use Rattle.book.proofs.Words.{kind-of, year-valid}
 use Rattle.book.proofs.Numbers.{stored-keeps}
 use Rattle.book.proofs.Valid.{admitted-valid, valid-admits}
-use Rattle.book.proofs.Sound.{fitted-accepted, fitted-cell, sound}
+use Rattle.book.proofs.AcceptedBook.{fitted-accepted, fitted-cell, accepted-book}
 use Rattle.book.proofs.Entries.{before-words, valid-put, head-filled, words-filled}
 
 -- capacity depends on the length
@@ -40,10 +40,10 @@ module _ (s : Shape) (g : Shaped s) (l b : List ℕ) (a : admitted s l b .done �
   one-stored k w r = valid-admits s l (set b k w) g (fitted-length s l b (set b k w) (length-set b k w) (admitted-fitted s l b a)) r
 
   pub admitted-capacity : bookSize s (cells l) ≤ length b
-  admitted-capacity = sound s l b g a .fitted .capacity
+  admitted-capacity = accepted-book s l b g a .fitted .capacity
 
   pub horizon-small : horizon l < 2 ^ 8
-  horizon-small = let h = sound s l b g a .fitted .accepted .head-valid .horizon in omega arith
+  horizon-small = let h = accepted-book s l b g a .fitted .accepted .head-valid .horizon in omega arith
 
   -- a word of the head
   pub head-admits : (k w : ℕ) → k < s .head → isHeadWord (horizon l) k w ≡ true → admitted s l (set b k w) .done ≡ true
@@ -76,7 +76,7 @@ module _ (s : Shape) (g : Shaped s) (l b : List ℕ) (a : admitted s l b .done �
       one-stored (entryAt s i) word
       (record {
         head-words = record { each = λ k lt. rw (getD-set-other b (entryAt s i) k word 0 (λ q. omega arith)) (r .head-words .each k lt) };
-        entry-words = λ j lt. valid-put s b i new j (fitted-cell s l b (sound s l b g a .fitted) j lt) (s .entry) (head l) (cell l j) h horizon-small (r .entry-words j lt);
+        entry-words = λ j lt. valid-put s b i new j (fitted-cell s l b (accepted-book s l b g a .fitted) j lt) (s .entry) (head l) (cell l j) h horizon-small (r .entry-words j lt);
       })
 
 pub issued-admits : (s : Shape) (g : Shaped s) (l b : List ℕ) (n : ℕ) → admitted s l b .done ≡ true → admitted s l (withIssued s b n) .done ≡ true

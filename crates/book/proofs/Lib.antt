@@ -4,7 +4,7 @@ pub mod Words
 pub mod Numbers
 pub mod Parts
 pub mod Valid
-pub mod Sound
+pub mod AcceptedBook
 pub mod Search
 pub mod Held
 pub mod Entries

@@ -18,11 +18,11 @@ use Rattle.year.specs.declared.Entry.{Entry}
 use Rattle.book.specs.Layout.{yearKind, issuedKind, Shaped, yearAt, issuedAt, issuedWords, wordsOf, stored, withYear, withIssued}
 use Rattle.book.specs.Check.{isHeadWord, headWordValid, fitted}
 use Rattle.book.specs.Held.{heldAt, newBook, Holds}
-use Rattle.book.specs.Sound.{All, EntryValid}
+use Rattle.book.specs.AcceptedBook.{All, EntryValid}
 use Rattle.book.specs.declared.Shape.{Shape}
 use Rattle.book.proofs.Words.{year-valid}
 use Rattle.book.proofs.Numbers.{length-stored, stored-outside, stored-kind, stored-set, stored-filled, stored-same}
-use Rattle.book.proofs.Sound.{fitted-accepted}
+use Rattle.book.proofs.AcceptedBook.{fitted-accepted}
 use Rattle.book.proofs.Held.{held-at-sized, held-at-valid, held-at-entry}
 use Rattle.book.proofs.Entries.{year-put, issued-put, year-issued, head-filled, year-filled, issued-filled, words-filled, entry-filled}
 use Rattle.book.proofs.Keeps.{fitted-length, filled-admits}

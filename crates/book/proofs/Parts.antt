@@ -6,7 +6,7 @@ use native.Mathlib.Omega.{arith}
 use Rattle.words.specs.Search.{firstInvalid}
 use Rattle.words.proofs.Steps.{Passed, passed-more, passed-stop, ValidSoFar}
 use Rattle.words.proofs.Meaning.{first-invalid-word}
-use Rattle.book.specs.Sound.{All}
+use Rattle.book.specs.AcceptedBook.{All}
 
 -- n valid places on
 pub over : {valid : ℕ → Bool} {from to at : ℕ} (n : ℕ) → Passed valid from to at → at + n ≤ to → ((j : ℕ) → j < n → valid (at + j) ≡ true) → Passed valid from to (at + n)

@@ -13,12 +13,12 @@ use Rattle.fields.specs.declared.Cell.{Cell}
 use Rattle.listing.specs.Layout.{head, cells, cell}
 use Rattle.book.specs.Layout.{Sized, entryAt, bookSize, wordsOf}
 use Rattle.book.specs.Check.{entryWordValid, bookWordValid}
-use Rattle.book.specs.Sound.{Fitted, CellInBook, All}
+use Rattle.book.specs.AcceptedBook.{Fitted, CellInBook, All}
 use Rattle.book.specs.declared.Shape.{Shape}
 use Rattle.book.proofs.Places.{next-entry, entry-before}
 use Rattle.book.proofs.Parts.{part-stop, part-more, part-so-far}
 use Rattle.book.proofs.Valid.{valid-entry}
-use Rattle.book.proofs.Sound.{fitted-cell, words-sized, words-valid}
+use Rattle.book.proofs.AcceptedBook.{fitted-cell, words-sized, words-valid}
 
 module _ {s : Shape} {l b : List ℕ} {h : Head} {end : ℕ} (f : Fitted s l b) (same : h ≡ head l) (last : end ≡ bookSize s (cells l)) where
   -- before the first cell

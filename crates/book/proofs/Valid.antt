@@ -18,7 +18,7 @@ use Rattle.listing.specs.Layout.{head, cells, horizon, cell}
 use Rattle.listing.specs.Check.{checked}
 use Rattle.book.specs.Layout.{Shaped, entryAt, bookSize, cellOfPlace, offsetOfPlace, wordsOf}
 use Rattle.book.specs.Check.{isPlanWord, isOxidisedWord, isBurnedWord, headWordValid, entryWordValid, bookWordValid, capacityChecked, fitted, bookChecked, admitted}
-use Rattle.book.specs.Sound.{All, WordsValid}
+use Rattle.book.specs.AcceptedBook.{All, WordsValid}
 use Rattle.book.specs.declared.Shape.{Shape}
 use Rattle.book.proofs.Places.{entry-before, cell-of-place, offset-of-place, cell-below, offset-below}
 

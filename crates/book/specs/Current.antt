@@ -1,4 +1,4 @@
--- The book that the calls take: its shape, and at it what Layout, Check, Held and Sound say of every shape.
+-- The book that the calls take: its shape, and at it what Layout, Check, Held and AcceptedBook state of every shape.
 use Prim.Native.Nat.{ℕ}
 use mathlib.Core.List.{List}
 use Rattle.words.specs.Answers.{Answer}
@@ -6,7 +6,7 @@ use Rattle.year.specs.declared.Entry.{Entry}
 use Rattle.book.specs.Layout as layout
 use Rattle.book.specs.Check as check
 use Rattle.book.specs.Held as held
-use Rattle.book.specs.Sound as sound
+use Rattle.book.specs.AcceptedBook as accepted-book
 use Rattle.book.specs.declared.Shape.{Shape}
 
 -- a head of 2 words, and 3 words for each cell: number 6 asks for 2 + 3 × cells words
@@ -61,10 +61,10 @@ admitted = check.admitted current
 
 -- what an accepted one guarantees
 abbrev pub Fitted : List ℕ → List ℕ → Type 0
-Fitted = sound.Fitted current
+Fitted = accepted-book.Fitted current
 
 abbrev pub CellInBook : List ℕ → ℕ → Type 0
-CellInBook = sound.CellInBook current
+CellInBook = accepted-book.CellInBook current
 
-abbrev pub Sound : List ℕ → List ℕ → Type 0
-Sound = sound.Sound current
+abbrev pub AcceptedBook : List ℕ → List ℕ → Type 0
+AcceptedBook = accepted-book.AcceptedBook current

@@ -2,5 +2,5 @@
 pub mod Layout
 pub mod Check
 pub mod Held
-pub mod Sound
+pub mod AcceptedBook
 pub mod Current

@@ -13,7 +13,7 @@ ghost use Rattle.year.specs.Year.{kgOf};
 ghost use Rattle.book.specs.Layout.{Sized, Shaped, yearAt, issuedWords, entryAt, bookSize, joined, year, issued, entryOf, wordsOf, entry, withYear, stored};
 ghost use Rattle.book.specs.Layout.{withIssued, planWord, withPlan, heldWords};
 ghost use Rattle.book.specs.Check.{isYearWord, isPlanWord, isBurnedWord, isHeadWord, headWordValid, entryWordValid, bookWordValid, capacityChecked, fitted, bookChecked, admitted};
-ghost use Rattle.book.specs.Sound.{Fitted, CellInBook, All, Storable, CellWordsValid};
+ghost use Rattle.book.specs.AcceptedBook.{Fitted, CellInBook, All, Storable, CellWordsValid};
 use fields::Cell;
 use fields::Head;
 use words::BOOK_SHORT;

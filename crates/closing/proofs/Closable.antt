@@ -17,15 +17,15 @@ use Rattle.fields.specs.declared.Row.{Row}
 use Rattle.fields.specs.Valid.{RowValid}
 use Rattle.listing.specs.Layout.{head, cells, strata, horizon, row, cell}
 use Rattle.year.specs.Year.{inactive, age, lossOf, noLoss, mostLine, yearLoss, afterLoss}
-use Rattle.year.specs.Fit.{Fit}
+use Rattle.year.specs.Limits.{WithinLimits}
 use Rattle.year.specs.declared.Entry.{Entry}
 use Rattle.year.specs.declared.Loss.{Loss}
 use Rattle.year.proofs.Laws.{active, converted, loss-active, loss-inactive, after-loss-none, most-entered, year-most, year-kg-most}
-use Rattle.book.specs.Current.{current, entry, fitted, bookChecked, admitted, Sound}
+use Rattle.book.specs.Current.{current, entry, fitted, bookChecked, admitted, AcceptedBook}
 use Rattle.book.specs.Layout.{lineWords, year, entryOf}
-use Rattle.book.specs.Sound.{Storable, EntryValid}
+use Rattle.book.specs.AcceptedBook.{Storable, EntryValid}
 use Rattle.book.proofs.Valid.{admitted-valid, valid-checked, checked-admits}
-use Rattle.book.proofs.Sound.{shaped, sound}
+use Rattle.book.proofs.AcceptedBook.{shaped, accepted-book}
 use Rattle.book.proofs.Held.{valid-storable}
 use Rattle.book.proofs.Keeps.{admitted-fitted}
 use Rattle.closing.specs.Closing.{cellLoss, loss, EveryLine, linesChecked, mostPayload, lineFits, yearChecked, closeAnswer}
@@ -48,7 +48,7 @@ module _ {l : List ℕ} {h : Head} {c : Cell} {e : Entry} {t : ℕ} (g : CellYea
   pub cell-year-storable : Storable entry-then
   cell-year-storable = valid-storable (g .accepted .head-valid) (g .cell-valid) entry-then cell-year-valid
 
-  pub cell-year-fit : Fit h c (e .oxidised) (e .burned)
+  pub cell-year-fit : WithinLimits h c (e .oxidised) (e .burned)
   cell-year-fit = rw (g .head-is) (record { head-valid = g .accepted .head-valid; cell-valid = g .cell-valid; lost = g .entry-valid .lost })
 
   -- whatever row is read, its figures are in range
@@ -100,12 +100,12 @@ module _ {l : List ℕ} {h : Head} {t : ℕ} (i : ℕ) (w : List ℕ) (g : CellY
 pub next-cell-year : {l : List ℕ} {h : Head} {b : List ℕ} {t : ℕ} → NextYear l h b t → (i : ℕ) → i < cells l → CellYear l h (cell l i) (entry b i) t
 next-cell-year g i lt =
     let next = g .next in
-    let accepted = g .sound .fitted .accepted in
+    let accepted = g .accepted-book .fitted .accepted in
     record {
       accepted = accepted;
       head-is = g .head-is;
       cell-valid = accepted .cell-valid i lt;
-      entry-valid = g .sound .entry-valid i lt;
+      entry-valid = g .accepted-book .entry-valid i lt;
       in-time = (omega arith, g .in-time);
     }
 
@@ -115,25 +115,25 @@ module _ {l : List ℕ} {h : Head} {b : List ℕ} {t : ℕ} (g : NextYear l h b 
 
 -- ---- a valid book before the horizon: no kg line is too large for its word
 
-module _ (l b : List ℕ) (s : Sound l b) where
+module _ (l b : List ℕ) (s : AcceptedBook l b) where
   line-most : (i : ℕ) → i < cells l → loss l b i .kg ≤ mostLine
   line-most i lt = let valid = s .fitted .accepted in year-kg-most (head l) (row l) (cell l i) (entry b i) _ (valid .head-valid) (valid .cell-valid i lt) (valid .row-valid)
 
-  pub sound-fits : (i : ℕ) → i < cells l → loss l b i .kg ≤ mostPayload
-  sound-fits i lt = omega (arith, line-most i lt)
+  pub lines-fit : (i : ℕ) → i < cells l → loss l b i .kg ≤ mostPayload
+  lines-fit i lt = omega (arith, line-most i lt)
 
   -- so number 9 is the only one
   pub year-checked-is : yearChecked l b ≡ need (ltb (year b) (horizon l)) horizonReached 0 (accepted 0)
   unfolding yearChecked lineFits
   year-checked-is =
       ap (need (ltb (year b) (horizon l)) horizonReached 0)
-      (sym (need-all-is lineTooLarge (lineFits l b) 0 (cells l) (accepted 0) zero-le (λ i p lt. le-leb (loss l b i .kg) mostPayload (sound-fits i lt))))
+      (sym (need-all-is lineTooLarge (lineFits l b) 0 (cells l) (accepted 0) zero-le (λ i p lt. le-leb (loss l b i .kg) mostPayload (lines-fit i lt))))
 
   pub year-passed : year b < horizon l → accepted 0 ≡ yearChecked l b
   year-passed ahead = need-is (ltb (year b) (horizon l)) horizonReached 0 (accepted 0) (lt-ltb (year b) (horizon l) ahead) ∙ sym year-checked-is
 
 pub every-line : EveryLine
-every-line l b a = line-most l b (sound current l b shaped a)
+every-line l b a = line-most l b (accepted-book current l b shaped a)
 
 -- ---- a closing that is accepted, and one that can be
 module _ (l b : List ℕ) (capacity : ℕ) where
@@ -152,7 +152,7 @@ module _ (l b : List ℕ) (capacity : ℕ) where
       let admits = checked-admits current l b (h₁ .0) (h₃ .0) in
       record {
         admits = admits;
-        sound = sound current l b shaped admits;
+        accepted-book = accepted-book current l b shaped admits;
         ahead = ltb-true _ _ (h₄ .0);
         capacity = leb-true _ _ (need-accepted _ _ _ _ (h₂ .0) .0);
         fits = λ i lt. leb-true _ _ (need-all-accepted _ _ _ _ _ (h₄ .1) .0 i zero-le lt);
@@ -164,8 +164,8 @@ module _ (l b : List ℕ) (capacity : ℕ) where
   -- an accepted book before the horizon, with space for its lines
   pub closable-before : lineWords * cells l ≤ capacity → year b < horizon l → admitted l b .done ≡ true → Closable l b capacity
   closable-before enough ahead a =
-      let s = sound current l b shaped a in
-      record { admits = a; sound = s; ahead = ahead; capacity = enough; fits = sound-fits l b s }
+      let s = accepted-book current l b shaped a in
+      record { admits = a; accepted-book = s; ahead = ahead; capacity = enough; fits = lines-fit l b s }
 
   -- what can be closed is
   pub closes : Closable l b capacity → closeAnswer l b capacity .done ≡ true
@@ -174,7 +174,7 @@ module _ (l b : List ℕ) (capacity : ℕ) where
       let valid = admitted-valid current l b (k .admits) in
       sym
       (ap (λ (a : Answer). a .done)
-      (year-passed l b (k .sound) (k .ahead)
+      (year-passed l b (k .accepted-book) (k .ahead)
       ∙ after-is _ (bookChecked l b) (ap (λ (a : Answer). a .done) (valid-checked current l b shaped valid))
       ∙ after-is _ (linesChecked l capacity) (ap (λ (a : Answer). a .done) (sym (need-is (leb (lineWords * cells l) capacity) linesShort capacity (accepted 0) (le-leb _ _ (k .capacity)))))
       ∙ after-is _ (fitted l b) (admitted-fitted current l b (k .admits))

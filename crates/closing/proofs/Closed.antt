@@ -9,10 +9,10 @@ use Rattle.words.proofs.Blocks.{length-filled, filled-word}
 use Rattle.listing.specs.Layout.{head, cells, cell}
 use Rattle.book.specs.Current.{current, bookSize, issued, wordsOf, Holds}
 use Rattle.book.specs.Layout.{yearKind, oxidisedLineKind, burnedLineKind, kgLineKind, lineWords, yearAt, payload, year, linesOf, oxidisedLine, burnedLine, kgLine}
-use Rattle.book.specs.Sound.{Storable, EntryValid}
+use Rattle.book.specs.AcceptedBook.{Storable, EntryValid}
 use Rattle.book.proofs.Words.{payload-of}
 use Rattle.book.proofs.Numbers.{stored-same}
-use Rattle.book.proofs.Sound.{shaped}
+use Rattle.book.proofs.AcceptedBook.{shaped}
 use Rattle.book.proofs.Entries.{year-by, words-stored, head-filled, words-filled}
 use Rattle.book.proofs.Holds.{holds, holds-year, holds-entries}
 use Rattle.closing.specs.Closing.{loss, closedEntry, closedWords, closedLines, bookAfter, linesAfter}
@@ -50,7 +50,7 @@ module _ (l b : List ℕ) (capacity : bookSize (cells l) ≤ length b) where
 
 module _ (l b : List ℕ) (capacity : ℕ) (p : Closable l b capacity) where
   next-year : NextYear l (head l) b (year b + 1)
-  next-year = next-year-is (p .sound) (p .ahead) refl refl
+  next-year = next-year-is (p .accepted-book) (p .ahead) refl refl
 
   -- the entry of cell i is valid, and so fits its words
   pub closed-valid : (i : ℕ) → i < cells l → EntryValid (head l) (cell l i) (closedEntry l b i)

@@ -11,10 +11,10 @@ use Rattle.fields.specs.declared.Head.{Head}
 use Rattle.listing.specs.Layout.{head, cells, horizon, cell}
 use Rattle.year.specs.Year.{afterLoss}
 use Rattle.year.specs.declared.Loss.{Loss}
-use Rattle.book.specs.Current.{current, entryAt, wordsOf, Sound}
+use Rattle.book.specs.Current.{current, entryAt, wordsOf, AcceptedBook}
 use Rattle.book.specs.Layout.{lineWords, year, entryOf, heldWords, linesOf}
-use Rattle.book.specs.Sound.{CellWordsValid}
-use Rattle.book.proofs.Sound.{shaped}
+use Rattle.book.specs.AcceptedBook.{CellWordsValid}
+use Rattle.book.proofs.AcceptedBook.{shaped}
 use Rattle.book.proofs.Held.{held-at-sized}
 use Rattle.closing.specs.Closing.{cellLoss, loss, closedEntry, closedWords, closedLines, linesAfter, mostPayload}
 use Rattle.closing.specs.Closable.{CellYear, NextYear, Closable}
@@ -35,7 +35,7 @@ pub record Progress (l b d : List ℕ) (i : ℕ) (x y : List ℕ) : Type 0 where
 
 module _ {l b : List ℕ} (d : List ℕ) (k : Closable l b (length d)) where
   pub progress-none : Progress l b d 0 b d
-  progress-none = record { book = filling-none (closed-sized l b) (k .sound .fitted .capacity); lines = filling-none (lines-sized l b) (omega (arith, k .capacity)) }
+  progress-none = record { book = filling-none (closed-sized l b) (k .accepted-book .fitted .capacity); lines = filling-none (lines-sized l b) (omega (arith, k .capacity)) }
 
   -- the iteration of cell i, whose words begin at a
   module _ {h : Head} {t : ℕ} (g : NextYear l h b t) (i : ℕ) (lt : i < cells l) {x y : List ℕ} (r : Progress l b d i x y) (a : ℕ) (here : a ≡ entryAt i) where
@@ -51,7 +51,7 @@ module _ {l b : List ℕ} (d : List ℕ) (k : Closable l b (length d)) where
     lent-sized = filling-lent-length (r .book) lt a here
 
     pub iteration-cell-year : CellWordsValid h (cell l i) lent × (i < cells l) × CellYear l h (cell l i) (entryOf lent) t
-    iteration-cell-year = (rw (lent-is, g .head-is) (g .sound .words-valid i lt), lt, rw lent-is (next-cell-year g i lt))
+    iteration-cell-year = (rw (lent-is, g .head-is) (g .accepted-book .words-valid i lt), lt, rw lent-is (next-cell-year g i lt))
 
     iteration-loss : cellLoss l t i (entryOf lent) ≡ loss l b i
     iteration-loss = rw (lent-is, g .next)
@@ -84,5 +84,5 @@ unfolding linesAfter
 progress-all r le = (filling-all (r .book) le, filling-all (r .lines) le)
 
 -- t is the year after the current one
-pub next-year-is : {l b : List ℕ} {h : Head} {t : ℕ} → Sound l b → year b < horizon l → h ≡ head l → t ≡ year b + 1 → NextYear l h b t
-next-year-is s ahead h-is t-is = record { sound = s; head-is = h-is; next = t-is; in-time = omega arith }
+pub next-year-is : {l b : List ℕ} {h : Head} {t : ℕ} → AcceptedBook l b → year b < horizon l → h ≡ head l → t ≡ year b + 1 → NextYear l h b t
+next-year-is s ahead h-is t-is = record { accepted-book = s; head-is = h-is; next = t-is; in-time = omega arith }

@@ -9,9 +9,9 @@ use Rattle.fields.specs.declared.Cell.{Cell}
 use Rattle.listing.specs.Layout.{head, cells, strata, horizon}
 use Rattle.listing.specs.Accepted.{Accepted}
 use Rattle.year.specs.declared.Entry.{Entry}
-use Rattle.book.specs.Current.{admitted, Sound}
+use Rattle.book.specs.Current.{admitted, AcceptedBook}
 use Rattle.book.specs.Layout.{lineWords, year}
-use Rattle.book.specs.Sound.{EntryValid}
+use Rattle.book.specs.AcceptedBook.{EntryValid}
 use Rattle.closing.specs.Closing.{loss, mostPayload}
 
 -- a cell c with entry e can be worked out for year t; h is the listing's head
@@ -24,7 +24,7 @@ pub record CellYear (l : List ℕ) (h : Head) (c : Cell) (e : Entry) (t : ℕ) :
 
 -- an accepted book, and t the year after its current one
 pub record NextYear (l : List ℕ) (h : Head) (b : List ℕ) (t : ℕ) : Type 0 where
-  pub sound : Sound l b
+  pub accepted-book : AcceptedBook l b
   pub head-is : h ≡ head l
   pub next : t ≡ year b + 1
   pub in-time : t ≤ horizon l
@@ -32,7 +32,7 @@ pub record NextYear (l : List ℕ) (h : Head) (b : List ℕ) (t : ℕ) : Type 0 
 -- what a closing with a lines buffer of `size` words is given
 pub record Closable (l b : List ℕ) (size : ℕ) : Type 0 where
   pub admits : admitted l b .done ≡ true
-  pub sound : Sound l b
+  pub accepted-book : AcceptedBook l b
   pub ahead : year b < horizon l
   pub capacity : lineWords * cells l ≤ size
   pub fits : (i : ℕ) → i < cells l → loss l b i .kg ≤ mostPayload

@@ -8,9 +8,9 @@ ghost use Rattle.words.specs.Answers.{outcome, after};
 ghost use Rattle.listing.specs.Layout.{head, cells, row, cell};
 ghost use Rattle.listing.specs.Accepted.{Accepted};
 ghost use Rattle.year.specs.Year.{inactive, kgOf, yearLoss, afterLoss};
-ghost use Rattle.book.specs.Current.{current, bookChecked, Fitted, Sound};
+ghost use Rattle.book.specs.Current.{current, bookChecked, Fitted, AcceptedBook};
 ghost use Rattle.book.specs.Layout.{lineWords, entryOf, heldWords, linesOf};
-ghost use Rattle.book.specs.Sound.{CellWordsValid};
+ghost use Rattle.book.specs.AcceptedBook.{CellWordsValid};
 ghost use Rattle.closing.specs.Closing.{cellLoss, closedWords, bookAfter, linesAfter, linesChecked, mostPayload, yearChecked, closeAnswer};
 ghost use Rattle.closing.specs.Closable.{CellYear, NextYear, Closable};
 use book::BOOK;
@@ -53,7 +53,7 @@ pub fn cell_loss(listing: &[u32], h: Head, c: Cell, e: Entry, before: u32, year:
 // Number 9, for a valid book. Number 14 comes after it, and is proved not to arise: no kg line is
 // above `mostLine` of year/specs/Year.antt.
 fn check_year(listing: &[u32], book: &[u32]) -> Outcome
-    requires { ⌜ Sound (now listing) (now book) ⌝ }
+    requires { ⌜ AcceptedBook (now listing) (now book) ⌝ }
     ensures { λ r. ⌜ outcome r ≡ yearChecked (now (listing .entry)) (now (book .entry)) ⌝ }
 {
     let horizon = listing::head(listing).horizon;

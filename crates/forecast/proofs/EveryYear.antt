@@ -18,7 +18,7 @@ use Rattle.words.proofs.Sums.{sum-same}
 use Rattle.listing.specs.Layout.{cells, horizon}
 use Rattle.book.specs.Current.{current, fitted}
 use Rattle.book.specs.Layout.{lineWords}
-use Rattle.book.proofs.Sound.{shaped, fitted-accepted}
+use Rattle.book.proofs.AcceptedBook.{shaped, fitted-accepted}
 use Rattle.opening.specs.Opening.{openBook}
 use Rattle.closing.specs.Closing.{bookAfter, closeAnswer}
 use Rattle.closing.proofs.Closable.{closable-before, closes}

@@ -23,8 +23,8 @@ use Rattle.year.specs.declared.Loss.{Loss}
 use Rattle.year.proofs.Laws.{emission-most, emission-none, year-kg, year-kg-most}
 use Rattle.book.specs.Current.{current, entryAt, heldAt}
 use Rattle.book.specs.Layout.{Sized, heldWords}
-use Rattle.book.specs.Sound.{Storable}
-use Rattle.book.proofs.Sound.{shaped, entry-fit}
+use Rattle.book.specs.AcceptedBook.{Storable}
+use Rattle.book.proofs.AcceptedBook.{shaped, entry-fit}
 use Rattle.book.proofs.Held.{held-at-sized}
 use Rattle.closing.specs.Closable.{CellYear}
 use Rattle.closing.proofs.Closable.{cell-year-storable}

@@ -8,7 +8,7 @@ use borrow.Author.Tests.{leb-true}
 use Rattle.words.proofs.Answers.{need-accepted, after-accepted}
 use Rattle.listing.specs.Layout.{horizon}
 use Rattle.book.specs.Current.{current}
-use Rattle.book.proofs.Sound.{shaped, fitted-accepted}
+use Rattle.book.proofs.AcceptedBook.{shaped, fitted-accepted}
 use Rattle.opening.specs.Opening.{openBook}
 use Rattle.years.specs.Years.{entriesAfter, afterClosings}
 use Rattle.ledger.specs.Calls.{UntouchedFrom}

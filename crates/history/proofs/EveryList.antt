@@ -12,7 +12,7 @@ use Rattle.ledger.proofs.AdmittedCell.{cell-admitted}
 use Rattle.ledger.proofs.After.{opened-holds}
 use Rattle.history.specs.History.{State, next, run, BroughtForward, broughtForwardByOpen, yearIn, planIn, sumOf, issuedIn, highest, EachClosing, dOf, EveryUnconverted}
 use Rattle.history.specs.History.{Claims, EveryList, IsBroughtForward, EveryListFrom}
-use Rattle.book.proofs.Sound.{shaped, sound}
+use Rattle.book.proofs.AcceptedBook.{shaped, accepted-book}
 use Rattle.history.proofs.Invariant.{Inv, kept-step}
 
 -- before the first call
@@ -46,7 +46,7 @@ claims l s state v =
           let stated = cell-admitted l (state .book) i (v .admits) p in
           record {
             stated = stated;
-            depth = rw stated (omega (arith, v .oxidised-is i p, v .burned-is i p, sound current l (state .book) shaped (v .admits) .entry-valid i p .lost));
+            depth = rw stated (omega (arith, v .oxidised-is i p, v .burned-is i p, accepted-book current l (state .book) shaped (v .admits) .entry-valid i p .lost));
             kilograms = v .kilograms i p;
             dry = v .dry i p;
           };

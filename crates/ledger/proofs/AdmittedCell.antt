@@ -15,7 +15,7 @@ use Rattle.words.proofs.Answers.{need-accepted, after-accepted, need-is, after-
 use Rattle.listing.specs.Layout.{cells, horizon}
 use Rattle.book.specs.Current.{current, admitted}
 use Rattle.book.specs.Layout.{year}
-use Rattle.book.proofs.Sound.{shaped, sound, sound-cell}
+use Rattle.book.proofs.AcceptedBook.{shaped, accepted-book, accepted-book-cell}
 use Rattle.ledger.specs.Calls.{cellChecked, admittedCell, admittedUnwithdrawn, ahead, planChecked, replanAnswer, StatementAnswer, noFigures, figuresOf, statementAnswer}
 use Rattle.ledger.specs.declared.CellFigures.{CellFigures}
 use Rattle.ledger.specs.AdmittedCell.{AdmittedCell}
@@ -26,13 +26,13 @@ module _ (l b : List ℕ) (i : ℕ) where
   admitted-cell-accepted h =
       let h₁ = after-accepted _ _ h in
       let h₂ = need-accepted _ _ _ _ (h₁ .1) in
-      let s = sound current l b shaped (h₁ .0) in
+      let s = accepted-book current l b shaped (h₁ .0) in
       let lt = ltb-true _ _ (h₂ .0) in
       record {
         admits = h₁ .0;
-        sound = s;
+        accepted-book = s;
         there = lt;
-        capacity = sound-cell current l b s i lt;
+        capacity = accepted-book-cell current l b s i lt;
         entry-valid = s .entry-valid i lt;
         words-valid = s .words-valid i lt;
       }
@@ -90,5 +90,5 @@ module _ (l b : List ℕ) (i : ℕ) where
     pub replan-done : (y : ℕ) → outcome v ≡ replanAnswer l b i y → v ≡ Done → AdmittedCell l b i × (y < 2 ^ 8)
     replan-done y e d =
         let (r, le) = replan-accepted y (accepted-by (replanAnswer l b i y) e d) in
-        let most = r .sound .fitted .accepted .head-valid .horizon .1 in
+        let most = r .accepted-book .fitted .accepted .head-valid .horizon .1 in
         (r, omega arith)

@@ -15,7 +15,7 @@ use Rattle.year.specs.Year.{planned, marked}
 use Rattle.year.specs.declared.Entry.{Entry}
 use Rattle.book.specs.Current.{current, issued, withIssued, withPlan, entry, fitted, admitted, Holds}
 use Rattle.book.specs.Layout.{year, oxidisedLine, burnedLine, kgLine}
-use Rattle.book.proofs.Sound.{shaped, sound}
+use Rattle.book.proofs.AcceptedBook.{shaped, accepted-book}
 use Rattle.book.proofs.Entries.{replaced}
 use Rattle.book.proofs.Holds.{holds, holds-as, holds-issued, holds-plan}
 use Rattle.balance.specs.Balance.{tonnesDue}
@@ -88,7 +88,7 @@ issued-holds l b h =
     let a = after-accepted _ _ h .0 in
     let book-is : issueEffect l b .book ≡ withIssued b (issued b + tonnesDue l b) = written-new (issueAnswer l b) b (withIssued b (issued b + tonnesDue l b)) h in
     rw book-is
-    (holds-issued shaped (holds current l b a) (issued b + tonnesDue l b) (issued-fits l b (sound current l b shaped a)))
+    (holds-issued shaped (holds current l b a) (issued b + tonnesDue l b) (issued-fits l b (accepted-book current l b shaped a)))
 
 pub issued-value : (l b : List ℕ) → issueEffect l b .answer .done ≡ true → issueEffect l b .answer .value ≡ tonnesDue l b
 unfolding issueEffect issueAnswer

@@ -21,7 +21,7 @@ use Rattle.book.specs.Held as held
 use Rattle.book.specs.Layout.{lineWords, issuedAt, issuedWords, issuedKind, yearAt, yearKind, year, stored}
 use Rattle.book.proofs.Numbers.{length-stored, stored-outside}
 use Rattle.book.proofs.Places.{entry-before}
-use Rattle.book.proofs.Sound.{shaped, fitted-accepted}
+use Rattle.book.proofs.AcceptedBook.{shaped, fitted-accepted}
 use Rattle.book.proofs.Held.{held-at-sized}
 use Rattle.opening.specs.Opening.{openEntry, openBook}
 use Rattle.closing.specs.Closing.{closedWords, closedLines, bookAfter, linesAfter, closeAnswer}
@@ -64,7 +64,7 @@ module _ (l b : List ℕ) where
     closed-beyond : UntouchedFrom (bookSize (cells l)) b (bookAfter l b)
     unfolding bookAfter
     closed-beyond =
-        both (filled-beyond (current .entry) b (current .head) (closedWords l b) (cells l) (closed-sized l b) (k .sound .fitted .capacity))
+        both (filled-beyond (current .entry) b (current .head) (closedWords l b) (cells l) (closed-sized l b) (k .accepted-book .fitted .capacity))
         (stored-beyond (bookSize (cells l)) _ yearKind yearAt 1 (year b + 1) (omega arith))
 
     lines-beyond : (x : List ℕ) → length x ≡ size → UntouchedFrom (lineWords * cells l) x (linesAfter l b x)

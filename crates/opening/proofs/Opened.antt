@@ -7,8 +7,8 @@ use native.Mathlib.Omega.{arith}
 use Rattle.listing.specs.Layout.{head, cells, cell}
 use Rattle.listing.specs.Accepted.{Accepted}
 use Rattle.book.specs.Current.{current, fitted, Holds}
-use Rattle.book.specs.Sound.{Storable, EntryValid}
-use Rattle.book.proofs.Sound.{shaped, fitted-accepted}
+use Rattle.book.specs.AcceptedBook.{Storable, EntryValid}
+use Rattle.book.proofs.AcceptedBook.{shaped, fitted-accepted}
 use Rattle.book.proofs.Held.{valid-storable}
 use Rattle.book.proofs.New.{new-holds}
 use Rattle.opening.specs.Opening.{openEntry, openBook}

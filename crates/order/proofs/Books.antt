@@ -17,10 +17,10 @@ use Rattle.year.specs.declared.Entry.{Entry}
 use Rattle.book.specs.Current.{current, bookSize, issued, wordsOf, entry, withIssued, withPlan, fitted, bookChecked, Fitted}
 use Rattle.book.specs.Layout.{lineWords, year, planWord, heldWords}
 use Rattle.book.specs.Check as check
-use Rattle.book.specs.Sound.{WordsValid}
+use Rattle.book.specs.AcceptedBook.{WordsValid}
 use Rattle.book.proofs.Numbers.{stored-same}
 use Rattle.book.proofs.Valid.{named, placed}
-use Rattle.book.proofs.Sound.{shaped, fitted-cell, words-sized}
+use Rattle.book.proofs.AcceptedBook.{shaped, fitted-cell, words-sized}
 use Rattle.book.proofs.Entries.{entry-word, year-by, issued-by, words-stored, words-put}
 use Rattle.book.proofs.New.{new-words, new-head}
 use Rattle.opening.specs.Opening.{openEntry, openBook}

@@ -16,13 +16,13 @@ use Rattle.fields.specs.declared.Head.{Head}
 use Rattle.fields.specs.declared.Cell.{Cell}
 use Rattle.listing.specs.Layout.{head, strata, cell}
 use Rattle.year.specs.Year.{kgOf, planned, marked}
-use Rattle.year.specs.Fit.{SameFigures}
+use Rattle.year.specs.Limits.{SameFigures}
 use Rattle.year.proofs.Laws.{converted}
-use Rattle.book.specs.Current.{current, entry, kgToDate, fitted, bookChecked, admitted, Sound}
+use Rattle.book.specs.Current.{current, entry, kgToDate, fitted, bookChecked, admitted, AcceptedBook}
 use Rattle.book.specs.Layout.{year}
 use Rattle.book.specs.Check as check
 use Rattle.book.proofs.Valid.{admitted-valid, valid-checked, fitted-is, checked-admits}
-use Rattle.book.proofs.Sound.{shaped, sound}
+use Rattle.book.proofs.AcceptedBook.{shaped, accepted-book}
 use Rattle.book.proofs.Keeps.{admitted-fitted}
 use Rattle.balance.specs.Balance.{balanceIn, due, tonnesDue}
 use Rattle.balance.proofs.Bounds.{balance-by}
@@ -134,7 +134,7 @@ module _ {n : ℕ} {o : Order n} {l l′ b b′ : List ℕ} (v : Pair o l l′ b
   own : (size : ℕ) → closeAnswer l b size .done ≡ true → (m : ℕ) → m < n → SameYear l′ b′ m l b (o .from m)
   own size done m lt =
       let s = closable l b size done in
-      let valid = s .sound .fitted .accepted in
+      let valid = s .accepted-book .fitted .accepted in
       let ahead = s .ahead in
       let years = year-is eb in
       let stratum : cell l′ m .stratum < strata l = omega (arith, ap (λ (c : Cell). c .stratum) (cell-is e m lt), valid .cell-valid (o .from m) (there e m lt) .stratum) in
@@ -150,11 +150,11 @@ module _ {n : ℕ} {o : Order n} {l l′ b b′ : List ℕ} (v : Pair o l l′ b
   -- ---- of a book that a call accepts
 
   module _ (a : admitted l b .done ≡ true) where
-    valid : Sound l b
-    valid = sound current l b shaped a
+    valid : AcceptedBook l b
+    valid = accepted-book current l b shaped a
 
-    valid′ : Sound l′ b′
-    valid′ = sound current l′ b′ shaped (v .admits a)
+    valid′ : AcceptedBook l′ b′
+    valid′ = accepted-book current l′ b′ shaped (v .admits a)
 
     year-same : yearChecked l′ b′ ≡ yearChecked l b
     year-same = year-checked-is l′ b′ valid′ ∙ rw (year-is eb, horizon-is e) (sym (year-checked-is l b valid))
@@ -208,12 +208,12 @@ module _ {n : ℕ} {o : Order n} {l l′ b b′ : List ℕ} (v : Pair o l l′ b
       both _ _ alike
       (λ done.
       let (r, in-time) = replan-accepted l b k t done in
-      rw (here-entry k (rw (e .count) at (r .there))) (plan-moved e eb (r .sound .fitted) (valid′ (r .admits) .fitted) k (planned (entry b k) t)))
+      rw (here-entry k (rw (e .count) at (r .there))) (plan-moved e eb (r .accepted-book .fitted) (valid′ (r .admits) .fitted) k (planned (entry b k) t)))
   book-same (Withdraw k) y alike =
       both _ _ alike
       (λ done.
       let r = unwithdrawn-accepted l b k done in
-      rw (here-entry k (rw (e .count) at (r .there))) (plan-moved e eb (r .sound .fitted) (valid′ (r .admits) .fitted) k (marked (entry b k))))
+      rw (here-entry k (rw (e .count) at (r .there))) (plan-moved e eb (r .accepted-book .fitted) (valid′ (r .admits) .fitted) k (marked (entry b k))))
   book-same Issue y alike =
       both _ _ alike
       (λ done. let a = call-admitted l b Issue done in rw (due-is, issued-is eb) (issued-moved e eb (valid a .fitted) (valid′ a .fitted) _))

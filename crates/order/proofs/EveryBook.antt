@@ -3,7 +3,7 @@ use mathlib.Core.Path.{sym, _∙_}
 use mathlib.Core.List.{List}
 use Prim.Native.Nat.{ℕ}
 use Rattle.book.specs.Current.{current}
-use Rattle.book.proofs.Sound.{shaped, fitted-accepted}
+use Rattle.book.proofs.AcceptedBook.{shaped, fitted-accepted}
 use Rattle.ledger.specs.Calls.{openEffect, statementAnswer}
 use Rattle.forecast.specs.Forecast.{outputChecked, forecastAnswer, forecastEffect}
 use Rattle.order.specs.Order.{Order, ProjectMoved, ButForPlace, EveryBook}

@@ -13,7 +13,7 @@ use Rattle.words.specs.Sums.{sumBelow}
 use Rattle.listing.specs.Layout.{head, cells, horizon, cellWords, offsets, row, cellAt, cell}
 use Rattle.listing.specs.Check.{checked}
 use Rattle.year.specs.Year.{unconverted, age}
-use Rattle.year.specs.Fit.{SameFigures}
+use Rattle.year.specs.Limits.{SameFigures}
 use Rattle.book.specs.Current.{current, entryAt, entry, admitted}
 use Rattle.book.specs.Layout.{lineWords, year, lineAt}
 use Rattle.closing.specs.Closing.{loss, closedWords, closedLines}

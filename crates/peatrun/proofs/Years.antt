@@ -28,7 +28,7 @@ use Rattle.book.specs.Current.{current, bookSize, entry, fitted, admitted}
 use Rattle.book.specs.Layout.{lineWords}
 use Rattle.book.specs.Check.{capacityChecked}
 use Rattle.book.specs.Check as check
-use Rattle.book.proofs.Sound.{shaped, sound}
+use Rattle.book.proofs.AcceptedBook.{shaped, accepted-book}
 use Rattle.closing.specs.Closable.{Closable}
 use Rattle.closing.proofs.Closable.{closable-before, closes}
 use Rattle.ledger.specs.Calls.{openEffect, closeEffect, issueAnswer, issueEffect, StatementAnswer, noFigures, stated, figuresOf, statementAnswer}
@@ -74,11 +74,11 @@ opened l b book′ v e d =
 -- ---- a year of an opened book
 
 pub opened-cells : (l b : List ℕ) → admitted l b .done ≡ true → cells l ≤ mostCells
-opened-cells l b admits = sound current l b shaped admits .fitted .accepted .head-valid .cells .1
+opened-cells l b admits = accepted-book current l b shaped admits .fitted .accepted .head-valid .cells .1
 
 pub opened-long : (l b : List ℕ) → admitted l b .done ≡ true → leastWords ≤ length l
 opened-long l b admits =
-    let a = sound current l b shaped admits .fitted .accepted in
+    let a = accepted-book current l b shaped admits .fitted .accepted in
     omega (arith, a .long, a .parts .tables, a .parts .cells, a .parts .terms)
 
 module _ (l b : List ℕ) (t : ℕ) (o : InYear l b t) where

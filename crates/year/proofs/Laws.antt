@@ -14,7 +14,7 @@ use Rattle.fields.specs.declared.Row.{Row}
 use Rattle.fields.specs.declared.Cell.{Cell}
 use Rattle.year.specs.Year.{unconverted, inactive, age, drained, remaining, burnedBy, oxidisedBy, burnedMm, mmOf, noMm, yearMm, emission, kgOf, lossOf, yearLoss}
 use Rattle.year.specs.Year.{noLoss, mostLine, mostEmission, mostLoss, afterLoss}
-use Rattle.year.specs.Fit.{Fit, SameFigures}
+use Rattle.year.specs.Limits.{WithinLimits, SameFigures}
 use Rattle.year.specs.declared.Entry.{Entry}
 use Rattle.year.specs.declared.LostMm.{LostMm}
 use Rattle.year.specs.declared.Loss.{Loss}
@@ -40,7 +40,7 @@ module _ {h : Head} {c : Cell} (head : HeadValid h) (cell : CellValid (h .strata
   weight-most o b {m} {n} p q = mul-le-mul {n₂ = 24000000} {m₂ = 11000 * m + 40000 * n} area-most (omega (arith, methane-most q))
 
 -- 20,000 mm
-module _ {h : Head} {c : Cell} {o b : ℕ} (fit : Fit h c o b) where
+module _ {h : Head} {c : Cell} {o b : ℕ} (fit : WithinLimits h c o b) where
   pub lost-most : o + b ≤ 20000
   lost-most = let most = fit .cell-valid .entered in let lost = fit .lost in omega arith
 

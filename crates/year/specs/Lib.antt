@@ -1,3 +1,3 @@
 -- What the contracts of year, and of the crates above it, cite.
 pub mod Year
-pub mod Fit
+pub mod Limits

@@ -3,7 +3,7 @@ ghost use mathlib.Core.Path.{_≡_};
 ghost use Prim.Native.Nat.{_+_, _-_, _^_, _<_, _≤_, min};
 ghost use Rattle.fields.specs.Valid.{RowValid};
 ghost use Rattle.year.specs.Year.{unconverted, inactive, burnedBy, oxidisedBy, emission, kgOf, mmOf, lossOf, noLoss, opened, afterLoss, planned, marked, mostLoss};
-ghost use Rattle.year.specs.Fit.{Fit};
+ghost use Rattle.year.specs.Limits.{WithinLimits};
 use fields::Cell;
 use fields::Head;
 use fields::Row;
@@ -122,7 +122,7 @@ fn oxidised_by(d: u32, o: u32, remaining: u32, burned: u32) -> u32
 
 // The emission to date of so much oxidised and burned, in kg. The products are made in u64.
 pub fn emission(h: Head, c: Cell, oxidised: u32, burned: u32) -> u32
-    requires { ⌜ Fit h c oxidised burned ⌝ }
+    requires { ⌜ WithinLimits h c oxidised burned ⌝ }
     ensures { λ r. ⌜ r ≡ emission h c oxidised burned ⌝ }
 {
     let k = c.area as u64 * c.density as u64;
@@ -144,7 +144,7 @@ pub fn no_loss() -> Loss
 
 // The mm that an active cell loses, by its row of the table: the fire comes first.
 pub fn mm_of(h: Head, c: Cell, r: Row, e: Entry) -> LostMm
-    requires { ⌜ Fit h c (e .oxidised) (e .burned) × RowValid r ⌝ }
+    requires { ⌜ WithinLimits h c (e .oxidised) (e .burned) × RowValid r ⌝ }
     ensures { λ m. ⌜ m ≡ mmOf h c r e ⌝ }
 {
     let remaining = c.entered - (e.oxidised + e.burned);
@@ -156,7 +156,7 @@ pub fn mm_of(h: Head, c: Cell, r: Row, e: Entry) -> LostMm
 
 // What it loses in all, where its kg to date is `before`.
 pub fn loss_of(h: Head, c: Cell, r: Row, e: Entry, before: u32) -> Loss
-    requires { ⌜ Fit h c (e .oxidised) (e .burned) × RowValid r × (before ≡ kgOf h c e) ⌝ }
+    requires { ⌜ WithinLimits h c (e .oxidised) (e .burned) × RowValid r × (before ≡ kgOf h c e) ⌝ }
     ensures { λ s. ⌜ s ≡ lossOf h c r e ⌝ }
 {
     let m = mm_of(h, c, r, e);

@@ -9,7 +9,7 @@ use Rattle.listing.specs.Layout.{head, cells, row, cell}
 use Rattle.listing.specs.Accepted.{Accepted}
 use Rattle.year.specs.Year.{unconverted, noLoss, mostLoss, afterLoss}
 use Rattle.year.proofs.Laws.{most-entered, unconverted-loss, year-most}
-use Rattle.book.specs.Sound.{Storable, EntryValid}
+use Rattle.book.specs.AcceptedBook.{Storable, EntryValid}
 use Rattle.book.proofs.Held.{valid-storable}
 use Rattle.years.specs.Years.{entriesAfter, lossIn}
 

@@ -11,7 +11,7 @@ use Rattle.year.specs.Year.{afterLoss}
 use Rattle.year.specs.declared.Entry.{Entry}
 use Rattle.book.specs.Current.{current, entry, heldAt, newBook, fitted, Holds}
 use Rattle.book.specs.Layout.{withYear, heldWords}
-use Rattle.book.proofs.Sound.{shaped, fitted-accepted}
+use Rattle.book.proofs.AcceptedBook.{shaped, fitted-accepted}
 use Rattle.book.proofs.New.{new-again, new-holds}
 use Rattle.opening.specs.Opening.{openBook}
 use Rattle.closing.specs.Closing.{cellLoss, loss, closedWords, bookAfter}

@@ -10,7 +10,7 @@ use Rattle.words.proofs.Sums.{sum-none}
 use Rattle.fields.specs.declared.Head.{Head}
 use Rattle.listing.specs.Layout.{cells}
 use Rattle.book.specs.Current.{current, kgToDate}
-use Rattle.book.proofs.Sound.{sound-cell}
+use Rattle.book.proofs.AcceptedBook.{accepted-book-cell}
 use Rattle.balance.proofs.Bounds.{kg-words, kg-next}
 use Rattle.balance.proofs.kg_to_date.Statement.{statement}
 use Rattle.balance.proofs.kg_to_date.Tie as tie
@@ -44,7 +44,7 @@ cell-requires : tie.Need-cell-requires Inv-loop μ-loop
 cell-requires c κs = (start (c .before) .pre .fitted .accepted, c .before .before .before .head .ensures, omega (arith, below c))
 
 words-of-requires : tie.Need-words-of-requires Inv-loop μ-loop
-words-of-requires c κs = let a = c .before .before in sound-cell current (l a) (b a) (start a .pre) (a .loop .i) (below (c .before))
+words-of-requires c κs = let a = c .before .before in accepted-book-cell current (l a) (b a) (start a .pre) (a .loop .i) (below (c .before))
 
 kg-of-requires : tie.Need-kg-of-requires Inv-loop μ-loop
 kg-of-requires c κs =

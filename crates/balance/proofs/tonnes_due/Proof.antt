@@ -1,4 +1,4 @@
--- `balance::tonnes_due` meets its contract: the peat and the balance of a sound book are small enough. Assumes nothing.
+-- `balance::tonnes_due` meets its contract: the peat and the balance of an accepted book are small enough. Assumes nothing.
 use mathlib.Core.Path.{_≡_, ap₂, _∙_}
 use native.Mathlib.Omega.{arith}
 use mir.Syntax.{w64}

@@ -2,7 +2,7 @@
 use borrow.Author.Needs.{needs}
 use Rattle.words.proofs.Answers.{answers}
 use Rattle.book.specs.Check.{admitted}
-use Rattle.book.proofs.Sound.{fitted-done}
+use Rattle.book.proofs.AcceptedBook.{fitted-done}
 use Rattle.book.proofs.admit.Statement.{statement}
 use Rattle.book.proofs.admit.Tie as tie
 

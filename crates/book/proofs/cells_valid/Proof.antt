@@ -10,7 +10,7 @@ use Rattle.listing.specs.Layout.{head, cells}
 use Rattle.book.specs.Layout.{entryAt}
 use Rattle.book.specs.Check.{bookWordValid}
 use Rattle.book.proofs.Search.{cells-begin-so-far, cell-sized, cell-so-far}
-use Rattle.book.proofs.Sound.{fitted-cell}
+use Rattle.book.proofs.AcceptedBook.{fitted-cell}
 use Rattle.book.proofs.cells_valid.Statement.{statement}
 use Rattle.book.proofs.cells_valid.Tie as tie
 

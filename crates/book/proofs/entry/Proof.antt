@@ -1,6 +1,6 @@
 -- `book::entry` meets its contract: it is what the cell's words say. Assumes nothing.
 use borrow.Author.Needs.{needs}
-use Rattle.book.proofs.Sound.{words-long}
+use Rattle.book.proofs.AcceptedBook.{words-long}
 use Rattle.book.proofs.entry.Statement.{statement}
 use Rattle.book.proofs.entry.Tie as tie
 

@@ -11,7 +11,7 @@ use Rattle.book.specs.Layout.{entryAt}
 use Rattle.book.specs.Check.{bookWordValid}
 use Rattle.book.proofs.Places.{size-small}
 use Rattle.book.proofs.Search.{cells-begin, cell-sized, cell-stop, cell-more}
-use Rattle.book.proofs.Sound.{fitted-cell}
+use Rattle.book.proofs.AcceptedBook.{fitted-cell}
 use Rattle.book.proofs.first_invalid_cell_word.Statement.{statement}
 use Rattle.book.proofs.first_invalid_cell_word.Tie as tie
 

@@ -11,7 +11,7 @@ use Rattle.fields.specs.declared.Head.{Head}
 use Rattle.listing.specs.Layout.{head, cells, horizon}
 use Rattle.book.specs.Layout.{bookSize}
 use Rattle.book.specs.Check.{headWordValid, bookWordValid}
-use Rattle.book.specs.Sound.{Fitted}
+use Rattle.book.specs.AcceptedBook.{Fitted}
 use Rattle.book.specs.declared.Shape.{Shape}
 use Rattle.book.proofs.Parts.{part-stop, part-more}
 use Rattle.book.proofs.Valid.{valid-head}

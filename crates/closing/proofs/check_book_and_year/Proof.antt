@@ -1,7 +1,7 @@
 -- `closing::check_book_and_year` meets its contract: number 9 comes after 8. Assumes nothing.
 use borrow.Author.Needs.{needs}
 use Rattle.words.proofs.Answers.{answers}
-use Rattle.book.proofs.Sound.{checked-done}
+use Rattle.book.proofs.AcceptedBook.{checked-done}
 use Rattle.closing.proofs.check_book_and_year.Statement.{statement}
 use Rattle.closing.proofs.check_book_and_year.Tie as tie
 

@@ -4,7 +4,7 @@ use native.Mathlib.Omega.{arith}
 use borrow.Author.Needs.{needs}
 use Rattle.year.specs.Year.{afterLoss}
 use Rattle.book.specs.Layout.{heldWords}
-use Rattle.book.specs.Sound.{Storable}
+use Rattle.book.specs.AcceptedBook.{Storable}
 use Rattle.closing.proofs.Closable.{step-cell-year, step-inactive, step-kept, step-loss, step-storable}
 use Rattle.closing.proofs.close_cell.Statement.{statement}
 use Rattle.closing.proofs.close_cell.Tie as tie

@@ -5,7 +5,7 @@ use Prim.Native.Nat.{_-_}
 use native.Mathlib.Omega.{arith}
 use lib.ListN.{length-take, length-drop}
 use Rattle.listing.specs.Layout.{cells}
-use Rattle.book.proofs.Sound.{shaped}
+use Rattle.book.proofs.AcceptedBook.{shaped}
 use Rattle.closing.proofs.Closable.{next-year-cells}
 use Rattle.closing.proofs.Loop.{Progress, progress-none, iteration-cell-year, iteration-fits, progress-next, progress-all}
 use Rattle.closing.proofs.close_cells.Statement.{statement}

@@ -12,7 +12,7 @@ use Rattle.closing.proofs.close_year.Tie as tie
 close-cells-requires : tie.Need-close-cells-requires
 close-cells-requires c κs =
     let k = c .before .before .before .before .before .before .before .before .pre in
-    (next-year-is (k .sound) (k .ahead) (c .before .before .before .before .head .ensures) (omega arith), k)
+    (next-year-is (k .accepted-book) (k .ahead) (c .before .before .before .before .head .ensures) (omega arith), k)
 
 returns : tie.Need-returns
 unfolding bookAfter

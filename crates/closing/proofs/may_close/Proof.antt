@@ -1,7 +1,7 @@
 -- `closing::may_close` meets its contract: 7 to 9 come after the listing's tests and the book's length. Assumes nothing.
 use borrow.Author.Needs.{needs}
 use Rattle.words.proofs.Answers.{answers}
-use Rattle.book.proofs.Sound.{shaped, fitted-done}
+use Rattle.book.proofs.AcceptedBook.{shaped, fitted-done}
 use Rattle.closing.specs.Closing.{closeAnswer}
 use Rattle.closing.proofs.may_close.Statement.{statement}
 use Rattle.closing.proofs.may_close.Tie as tie

@@ -4,6 +4,7 @@ use Prim.Native.Nat.{_+_}
 use native.Mathlib.Omega.{arith}
 use borrow.Author.Tests.{not-true, not-false}
 use Rattle.words.specs.Answers.{accepted}
+use borrow.Author.Needs.{needs}
 use Rattle.words.proofs.Answers.{flag-true, need-next, answers}
 use Rattle.sums.specs.Sums.{sum}
 use Rattle.discount.specs.Discount.{distance, factor, discount}
@@ -40,7 +41,7 @@ discount-spec =
     (λ c κs. c .before .before .stock-sums .ensures .refused-gives (not-true _ (c .if2 .taken)))
     (λ c. search answers)
     (λ c κs. valid c .0)
-    (λ c κs. valid (c .before) .1)
+    (λ c κs. let k = valid (c .before) in search needs)
     (λ c. let q = c .before .sum-of-squares .ensures .1 in let p = c .sum-of-squares2 .ensures .1 in omega arith)
     (λ c κs. search answers)
     (λ c κs.

@@ -2,7 +2,7 @@
 use borrow.Author.Needs.{needs}
 use Rattle.words.proofs.Answers.{answers}
 use Rattle.book.specs.Current.{current}
-use Rattle.book.proofs.Sound.{shaped, fitted-done}
+use Rattle.book.proofs.AcceptedBook.{shaped, fitted-done}
 use Rattle.forecast.specs.Forecast.{forecastAnswer}
 use Rattle.forecast.proofs.may_forecast.Statement.{statement}
 use Rattle.forecast.proofs.may_forecast.Tie as tie

@@ -5,7 +5,7 @@ use native.Mathlib.Omega.{arith}
 use borrow.Author.Needs.{needs}
 use Rattle.fields.specs.declared.Head.{Head}
 use Rattle.listing.specs.Layout.{cells}
-use Rattle.book.proofs.Sound.{shaped}
+use Rattle.book.proofs.AcceptedBook.{shaped}
 use Rattle.forecast.proofs.Loop.{Progress, progress-none, iteration-running, iteration-entry, progress-next, progress-all}
 use Rattle.forecast.proofs.run_cells.Statement.{statement}
 use Rattle.forecast.proofs.run_cells.Tie as tie

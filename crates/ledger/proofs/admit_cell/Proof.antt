@@ -2,13 +2,13 @@
 use borrow.Author.Needs.{needs}
 use Rattle.words.proofs.Answers.{answers}
 use Rattle.book.specs.Current.{current}
-use Rattle.book.proofs.Sound.{shaped, sound-done}
+use Rattle.book.proofs.AcceptedBook.{shaped, accepted-book-done}
 use Rattle.ledger.specs.Calls.{admittedCell}
 use Rattle.ledger.proofs.admit_cell.Statement.{statement}
 use Rattle.ledger.proofs.admit_cell.Tie as tie
 
 asked : tie.Need-check-cell-requires
-asked c κs = sound-done current _ _ shaped _ (c .before .before .admit .ensures) (c .enum-told .given .1) .fitted .accepted
+asked c κs = accepted-book-done current _ _ shaped _ (c .before .before .admit .ensures) (c .enum-told .given .1) .fitted .accepted
 
 pub admit-cell-spec : {M : Type 1} → statement M
 unfolding admittedCell

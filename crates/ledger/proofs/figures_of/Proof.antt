@@ -1,13 +1,13 @@
 -- `ledger::figures_of` meets its contract: each figure is read where the definition reads it. Assumes nothing.
 use native.Mathlib.Omega.{arith}
 use borrow.Author.Needs.{needs}
-use Rattle.year.specs.Fit.{Fit}
+use Rattle.year.specs.Limits.{WithinLimits}
 use Rattle.ledger.specs.Calls.{figuresOf}
 use Rattle.ledger.proofs.figures_of.Statement.{statement}
 use Rattle.ledger.proofs.figures_of.Tie as tie
 
 -- what is lost fits the cell
-fits : (c : tie.After-entry) → Fit (c .before .before .head .result) (c .before .cell .result) (c .entry .result .oxidised) (c .entry .result .burned)
+fits : (c : tie.After-entry) → WithinLimits (c .before .before .head .result) (c .before .cell .result) (c .entry .result .oxidised) (c .entry .result .burned)
 fits c = rw (c .before .before .head .ensures, c .before .cell .ensures, c .entry .ensures) (c .before .before .before .before .before .pre .words-valid .fit)
 
 kg-of-requires : tie.Need-kg-of-requires

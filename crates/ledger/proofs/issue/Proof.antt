@@ -4,9 +4,9 @@ use Prim.Native.Nat.{_+_, _*_, _<_, _^_}
 use native.Mathlib.Omega.{arith}
 use denote.Ref.{now}
 use borrow.Author.Needs.{needs}
-use Rattle.book.specs.Current.{current, issued, withIssued, Sound}
+use Rattle.book.specs.Current.{current, issued, withIssued, AcceptedBook}
 use Rattle.book.specs.Layout.{issuedWords}
-use Rattle.book.proofs.Sound.{shaped, sound-done}
+use Rattle.book.proofs.AcceptedBook.{shaped, accepted-book-done}
 use Rattle.balance.specs.Balance.{tonnesDue}
 use Rattle.balance.proofs.Bounds.{issued-fits}
 use Rattle.ledger.specs.Calls.{issueAnswer, issueEffect}
@@ -20,8 +20,8 @@ module _ (c : tie.After-enum-told) where
   abbrev start : tie.Start
   start = c .before .before .before .before .before .before
 
-  sound : Sound (now (start .args .listing)) (now (start .args .book))
-  sound = sound-done current _ _ shaped _ (c .before .before .admit .ensures) (c .enum-told .given .1)
+  accepted-book : AcceptedBook (now (start .args .listing)) (now (start .args .book))
+  accepted-book = accepted-book-done current _ _ shaped _ (c .before .before .admit .ensures) (c .enum-told .given .1)
 
 -- what is issued then, and that it fits a word
 sum : (c : tie.After-issued) →
@@ -33,7 +33,7 @@ small : (c : tie.After-issued) → c .issued .result + c .before .before .tonnes
 small c =
     let matched = c .before .before .before .before in
     let s = start matched in
-    rw (sum c) (issued-fits (now (s .args .listing)) (now (s .args .book)) (sound matched))
+    rw (sum c) (issued-fits (now (s .args .listing)) (now (s .args .book)) (accepted-book matched))
 
 done : tie.Need-returns
 unfolding issueEffect issueAnswer
@@ -57,11 +57,11 @@ issue-spec =
     (tie.spec
     (λ c κs. search needs)
     (λ c. search needs)
-    (λ c κs. sound (c .before))
-    (λ c κs. (shaped, omega (arith, sound (c .before .before .before) .fitted .capacity)))
+    (λ c κs. accepted-book (c .before))
+    (λ c κs. (shaped, omega (arith, accepted-book (c .before .before .before) .fitted .capacity)))
     (λ c. search needs)
     (λ c. omega (arith, small (c .before)))
-    (λ c κs. (shaped, omega (arith, sound (c .before .before .before .before .before) .fitted .capacity), small (c .before)))
+    (λ c κs. (shaped, omega (arith, accepted-book (c .before .before .before .before .before) .fitted .capacity), small (c .before)))
     (λ c. search needs)
     (λ c. search needs)
     done

@@ -1,6 +1,6 @@
 -- `ledger::open` meets its contract: a book that fits is written, and another is left as it was. Assumes nothing.
 use borrow.Author.Needs.{needs}
-use Rattle.book.proofs.Sound.{shaped, fitted-done}
+use Rattle.book.proofs.AcceptedBook.{shaped, fitted-done}
 use Rattle.ledger.specs.Calls.{openEffect}
 use Rattle.words.proofs.Effect.{commits}
 use Rattle.ledger.proofs.open.Statement.{statement}

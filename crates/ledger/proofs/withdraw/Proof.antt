@@ -36,7 +36,7 @@ asked : tie.Need-put-plan-requires
 asked c κs =
     let entry = c .before .before in
     let r = unwithdrawn (entry .before .before) in
-    (r .capacity, rw (c .marked .ensures) (omega (arith, ap (λ (e : Entry). e .plan) (entry .entry .ensures), r .entry-valid .plan, r .sound .fitted .accepted .head-valid .horizon .1)))
+    (r .capacity, rw (c .marked .ensures) (omega (arith, ap (λ (e : Entry). e .plan) (entry .entry .ensures), r .entry-valid .plan, r .accepted-book .fitted .accepted .head-valid .horizon .1)))
 
 pub withdraw-spec : {M : Type 1} → statement M
 unfolding withdrawEffect

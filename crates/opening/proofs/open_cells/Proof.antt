@@ -12,7 +12,7 @@ use Rattle.listing.specs.Layout.{cells}
 use Rattle.year.specs.Year.{opened}
 use Rattle.book.specs.Current.{current, heldAt}
 use Rattle.book.specs.Layout.{heldWords}
-use Rattle.book.proofs.Sound.{shaped}
+use Rattle.book.proofs.AcceptedBook.{shaped}
 use Rattle.book.proofs.Held.{held-at-sized}
 use Rattle.opening.specs.Opening.{openEntry}
 use Rattle.opening.proofs.Opened.{opened-storable}

@@ -1,4 +1,4 @@
--- What an accepted book guarantees, for the contracts of its readers and for the crates above. proofs/Sound.antt makes it from the check's answer.
+-- What an accepted book guarantees, for the contracts of its readers and for the crates above. proofs/AcceptedBook.antt makes it from the check's answer.
 use mathlib.Core.Path.{_≡_}
 use mathlib.Core.Bool.{Bool, true}
 use Prim.Native.Nat.{ℕ, _+_, _*_, _^_, _≤_, _<_}
@@ -9,7 +9,7 @@ use Rattle.fields.specs.declared.Cell.{Cell}
 use Rattle.listing.specs.Layout.{head, cells, horizon, cell}
 use Rattle.listing.specs.Accepted.{Accepted}
 use Rattle.year.specs.Year.{mostLoss}
-use Rattle.year.specs.Fit.{Fit}
+use Rattle.year.specs.Limits.{WithinLimits}
 use Rattle.year.specs.declared.Entry.{Entry}
 use Rattle.book.specs.Layout.{Sized, Shaped, entryAt, bookSize, issuedWords, year, issued, entryOf, wordsOf, entry}
 use Rattle.book.specs.Check.{headWordValid, entryWordValid}
@@ -55,10 +55,10 @@ pub record Storable (e : Entry) : Type 0 where
 -- a cell's own words, by the head and the cell of the listing: its kg to date can be worked out from them
 pub record CellWordsValid (h : Head) (c : Cell) (w : List ℕ) : Type 0 where
   pub sized : Sized (length w)
-  pub fit : Fit h c (entryOf w .oxidised) (entryOf w .burned)
+  pub fit : WithinLimits h c (entryOf w .oxidised) (entryOf w .burned)
 
 -- all of it
-pub record Sound (s : Shape) (l b : List ℕ) : Type 0 where
+pub record AcceptedBook (s : Shape) (l b : List ℕ) : Type 0 where
   pub fitted : Fitted s l b
   pub year : year b ≤ horizon l
   pub issued : issued s b < 2 ^ (28 * issuedWords s)

@@ -19,13 +19,13 @@ use Rattle.listing.specs.Layout.{head, cells, horizon, cell}
 use Rattle.listing.specs.Accepted.{Accepted}
 use Rattle.listing.proofs.Accepted.{accepted}
 use Rattle.year.specs.Year.{mostLoss}
-use Rattle.year.specs.Fit.{Fit}
+use Rattle.year.specs.Limits.{WithinLimits}
 use Rattle.year.specs.declared.Entry.{Entry}
 use Rattle.year.proofs.Laws.{most-entered}
 use Rattle.book.specs.Layout.{Sized, Shaped, yearAt, entryAt, issuedAt, issuedWords, payload, planOf, joined, year, issued, entryOf, wordsOf}
 use Rattle.book.specs.Current.{current}
 use Rattle.book.specs.Check.{isYearWord, isPlanWord, isBurnedWord, isHeadWord, entryWordValid, capacityChecked, fitted, bookChecked, admitted}
-use Rattle.book.specs.Sound.{Fitted, CellInBook, All, WordsValid, EntryValid, Sound}
+use Rattle.book.specs.AcceptedBook.{Fitted, CellInBook, All, WordsValid, EntryValid, AcceptedBook}
 use Rattle.book.specs.declared.Shape.{Shape}
 use Rattle.book.proofs.Places.{entry-before}
 use Rattle.book.proofs.Numbers.{joined-below}
@@ -91,16 +91,16 @@ words-long s b i r = words-valid s b i r .least
 -- ---- all of it
 
 -- the figures of cell i fit, with what its entry e has lost
-pub entry-fit : (l : List ℕ) (i : ℕ) (e : Entry) → Accepted l → i < cells l → EntryValid (head l) (cell l i) e → Fit (head l) (cell l i) (e .oxidised) (e .burned)
+pub entry-fit : (l : List ℕ) (i : ℕ) (e : Entry) → Accepted l → i < cells l → EntryValid (head l) (cell l i) e → WithinLimits (head l) (cell l i) (e .oxidised) (e .burned)
 entry-fit l i e a lt valid = record { head-valid = a .head-valid; cell-valid = a .cell-valid i lt; lost = valid .lost }
 
 module _ (s : Shape) (l b : List ℕ) (g : Shaped s) where
   holds : WordsValid s l b → (i : ℕ) → i < cells l → EntryValid (head l) (cell l i) (entryOf (wordsOf s b i))
   holds r i lt = entry-bounds (s .entry) (head l) (cell l i) (wordsOf s b i) (g .entry .least) (r .entry-words i lt)
 
-  pub checked-sound : Fitted s l b → bookChecked s l b .done ≡ true → Sound s l b
+  pub checked-accepted-book : Fitted s l b → bookChecked s l b .done ≡ true → AcceptedBook s l b
   unfolding year issued joined isHeadWord
-  checked-sound fits h =
+  checked-accepted-book fits h =
       let r = checked-valid s l b h in
       let two = g .head in
       record {
@@ -111,20 +111,20 @@ module _ (s : Shape) (l b : List ℕ) (g : Shaped s) where
         words-valid = λ i lt. record { sized = words-valid s b i (fitted-cell s l b fits i lt); fit = entry-fit l i _ (fits .accepted) lt (holds r i lt) };
       }
 
-  pub sound : admitted s l b .done ≡ true → Sound s l b
+  pub accepted-book : admitted s l b .done ≡ true → AcceptedBook s l b
   unfolding admitted
-  sound h = let both = after-accepted _ _ h in checked-sound (fitted-accepted s l b g (both .0)) (both .1)
+  accepted-book h = let both = after-accepted _ _ h in checked-accepted-book (fitted-accepted s l b g (both .0)) (both .1)
 
   -- the same where the call answered `Done`
   pub fitted-done : (v : Outcome) → outcome v ≡ fitted s l b → v ≡ Done → Fitted s l b
   fitted-done v e d = fitted-accepted s l b g (ap (λ (a : Answer). a .done) (sym e ∙ ap outcome d))
 
-  pub checked-done : Fitted s l b → (v : Outcome) → outcome v ≡ bookChecked s l b → v ≡ Done → Sound s l b
-  checked-done fits v e d = checked-sound fits (ap (λ (a : Answer). a .done) (sym e ∙ ap outcome d))
+  pub checked-done : Fitted s l b → (v : Outcome) → outcome v ≡ bookChecked s l b → v ≡ Done → AcceptedBook s l b
+  checked-done fits v e d = checked-accepted-book fits (ap (λ (a : Answer). a .done) (sym e ∙ ap outcome d))
 
-  pub sound-done : (v : Outcome) → outcome v ≡ admitted s l b → v ≡ Done → Sound s l b
-  sound-done v e d = sound (ap (λ (a : Answer). a .done) (sym e ∙ ap outcome d))
+  pub accepted-book-done : (v : Outcome) → outcome v ≡ admitted s l b → v ≡ Done → AcceptedBook s l b
+  accepted-book-done v e d = accepted-book (ap (λ (a : Answer). a .done) (sym e ∙ ap outcome d))
 
 -- every cell of an accepted book has space for its words
-pub sound-cell : (s : Shape) (l b : List ℕ) → Sound s l b → (i : ℕ) → i < cells l → CellInBook s b i
-sound-cell s l b sound = fitted-cell s l b (sound .fitted)
+pub accepted-book-cell : (s : Shape) (l b : List ℕ) → AcceptedBook s l b → (i : ℕ) → i < cells l → CellInBook s b i
+accepted-book-cell s l b accepted-book = fitted-cell s l b (accepted-book .fitted)

@@ -6,7 +6,7 @@ use Rattle.fields.specs.declared.Head.{Head}
 use Rattle.fields.specs.declared.Cell.{Cell}
 
 -- the cell's figures, with so much oxidised and burned
-pub record Fit (h : Head) (c : Cell) (oxidised burned : ℕ) : Type 0 where
+pub record WithinLimits (h : Head) (c : Cell) (oxidised burned : ℕ) : Type 0 where
   pub head-valid : HeadValid h
   pub cell-valid : CellValid (h .strata) (h .horizon) c
   pub lost : oxidised + burned ≤ c .entered
