@@ -17,7 +17,7 @@ use words::{BOOK_SHORT, BOOK_WORD, Outcome, bits, refuse};
 use year::Entry;
 
 // How many words a book's head has, and a cell in it.
-#[derive(Drop)]
+#[derive(Clone, Copy)]
 pub struct Shape {
     pub head: usize,
     pub entry: usize,

@@ -15,7 +15,7 @@ use words::{Amount, Outcome, Refusal};
 // The answer of a call: number 0 where it is accepted, and otherwise the refusal's number and place,
 // with the value 0. In this order it is returned in two registers.
 #[repr(C)]
-#[derive(Drop)]
+#[derive(Clone, Copy)]
 pub struct Answer {
     pub number: u32,
     pub value: u32,
@@ -24,7 +24,7 @@ pub struct Answer {
 
 // The answer of a statement: number and place as above, and what is stated of the cell.
 #[repr(C)]
-#[derive(Drop)]
+#[derive(Clone, Copy)]
 pub struct Account {
     pub number: u32,
     pub place: usize,

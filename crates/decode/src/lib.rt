@@ -1,4 +1,6 @@
 // Words out of bytes, the lowest byte of a word first.
+#![tactic(auto)]
+
 ghost use Rattle.std.specs.Prelude.{◌≡◌, ◌+◌, ◌*◌, ◌/◌, ◌≤◌, length};
 ghost use Rattle.decode.specs.Decode.{word_at, decoded};
 

@@ -1,5 +1,7 @@
 // The discount of two classes, EQ15 and EQ16: from the half-widths and the stocks of their carbon
 // pools to ten-thousandths, in whole numbers throughout.
+#![tactic(auto)]
+
 ghost use Rattle.std.specs.Prelude.{◌≡◌, true, ◌+◌, ◌*◌, ◌/◌, ◌<◌, ◌≤◌, length};
 ghost use Rattle.words.specs.Answers.{amount};
 ghost use Rattle.sums.specs.Sums.{weighted};
@@ -13,7 +15,7 @@ const MOST_POOLS: usize = 5;
 const MOST_VALUE: u32 = 20_000; // of a value, in tenths of t CO2e per ha
 
 // The sums of two lists of stocks, where no value of the four lists is too large.
-#[derive(Drop)]
+#[derive(Clone, Copy)]
 struct StockTotals {
     valid: bool,
     first: u64,

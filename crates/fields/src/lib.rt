@@ -1,4 +1,6 @@
 // The words of a project's listing, each by itself: which are valid, and their fields.
+#![tactic(auto)]
+
 ghost use Rattle.std.specs.Prelude.{◌≡◌};
 ghost use Rattle.words.specs.Bits.{is_kind};
 ghost use Rattle.fields.specs.Fields.{head_of, row_of, cell_of, yearly_term_of};
@@ -32,7 +34,7 @@ const MOST_DENSITY: u32 = 2_400;
 const MOST_TERM: u32 = 8;
 
 // The figures of the project as a whole. The guard and the least thickness of peat are in mm.
-#[derive(Drop)]
+#[derive(Clone, Copy)]
 pub struct Head {
     pub cells: u32,
     pub strata: u32,
@@ -45,7 +47,7 @@ pub struct Head {
 }
 
 // The figures of a stratum's table for a year of age.
-#[derive(Drop)]
+#[derive(Clone, Copy)]
 pub struct Row {
     pub drainage: u32,
     pub oxidation: u32,
@@ -53,7 +55,7 @@ pub struct Row {
 }
 
 // The figures of a cell.
-#[derive(Drop)]
+#[derive(Clone, Copy)]
 pub struct Cell {
     pub stratum: u32,
     pub conversion: u32,
@@ -63,7 +65,7 @@ pub struct Cell {
 }
 
 // A term of a year.
-#[derive(Drop)]
+#[derive(Clone, Copy)]
 pub struct YearlyTerm {
     pub term: u32,
     pub year: u32,

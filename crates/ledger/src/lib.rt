@@ -16,7 +16,7 @@ use words::{
 
 // What is stated of a cell: mm entered, remaining, oxidised and burned to date, kg to date, its plan
 // year and its mark.
-#[derive(Drop)]
+#[derive(Clone, Copy)]
 pub struct CellFigures {
     pub entered: u32,
     pub remaining: u32,
@@ -28,7 +28,7 @@ pub struct CellFigures {
 }
 
 // The answer of a statement.
-#[derive(Drop)]
+#[derive(Clone, Copy)]
 pub enum Stated {
     Value(CellFigures),
     Refused(Refusal),

@@ -1,4 +1,6 @@
 // A project's listing: whether it is valid, and where its words are.
+#![tactic(auto)]
+
 ghost use Rattle.std.specs.Prelude.{◌≡◌, true, ◌+◌, ◌*◌, ◌<◌, ◌≤◌, length};
 ghost use Rattle.words.specs.Search.{first_invalid};
 ghost use Rattle.words.specs.Answers.{outcome};
@@ -30,7 +32,7 @@ pub const MOST_WORDS: usize = TABLES_AT
     + YEAR_TERMS * MOST_HORIZON as usize;
 
 // Where the parts of a listing begin.
-#[derive(Drop)]
+#[derive(Clone, Copy)]
 pub struct Offsets {
     pub tables: usize,
     pub cells: usize,

@@ -26,7 +26,7 @@ const MOST_BOOK_WORDS: usize = BOOK.head + BOOK.entry * MOST_CELLS as usize;
 const MOST_LINE_WORDS: usize = LINE_WORDS * MOST_CELLS as usize;
 
 // What a read to the end finds: so many bytes, or that a read failed.
-#[derive(Drop)]
+#[derive(Clone, Copy)]
 enum Input {
     Bytes(usize),
     Failed,

@@ -1,4 +1,6 @@
 // A depth in whole millimetres from a reading in metres, by the exact value of its binary32.
+#![tactic(auto)]
+
 ghost use Rattle.std.specs.Prelude.{◌≡◌, true, false, pos, ◌+ℤ◌};
 ghost use Rattle.words.specs.Answers.{amount};
 ghost use Rattle.reading.specs.Metres.{is_finite, numerator, in_range, in_level, mm, lowest_mm, Ends};
@@ -7,7 +9,7 @@ ghost use Rattle.reading.specs.declared.Reading.TheVariants.{Missing};
 
 use words::{Amount, NOT_FINITE, OUT_OF_RANGE, READING_MISSING, refuse_amount};
 
-#[derive(Drop)]
+#[derive(Clone, Copy)]
 pub enum Reading {
     Core(f32),
     Levels(f32, f32),

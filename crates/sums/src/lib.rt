@@ -1,5 +1,7 @@
 // Sums over lists of any length: products of two lists' values added up, and a bound on a list's
 // values, by which a caller knows that such a sum fits.
+#![tactic(auto)]
+
 ghost use Rattle.std.specs.Prelude.{◌≡◌, ◌^◌, ◌<◌, ◌≤◌, length};
 ghost use Rattle.sums.specs.Sums.{weighted, all_at_most};
 

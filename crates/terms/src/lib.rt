@@ -1,4 +1,6 @@
 // The yearly terms of a listing, added up to date.
+#![tactic(auto)]
+
 ghost use Rattle.std.specs.Prelude.{◌≡◌, ◌≤◌, length};
 ghost use Rattle.fields.specs.Fields.{tonnes_of};
 ghost use Rattle.listing.specs.Layout.{most_term_words, offsets};
@@ -10,7 +12,7 @@ ghost use Rattle.terms.specs.Split.{up_to, Split};
 const LAST_BUFFERED: u32 = 5;
 
 // The terms to date: all of them, for N, and those up to 5, for S. Peat, term 2, is not among them.
-#[derive(Drop)]
+#[derive(Clone, Copy)]
 pub struct TermSums {
     pub all: i64,
     pub buffered: i64,

@@ -5,7 +5,7 @@ use Prim.Native.Nat.{ℕ, ◌<◌, ◌≤◌}
 use native.Mathlib.Nat.{le_refl}
 use native.Mathlib.Omega.{arith}
 use lib.Dec.{ltb, leb}
-use borrow.Author.Tests.{lt-ltb, le-ltb, lt-leb, le-leb, ltb-true, ltb-false, leb-true, not-true, not-false}
+use borrow.Author.Tests.{lt-ltb, le-ltb, lt-leb, le-leb, ltb-true, ltb-false, leb-true}
 use Rattle.words.specs.Bits.{within}
 use Rattle.words.specs.Search.{first_invalid}
 use Rattle.words.specs.Answers.{Answer, refused, outcome, need, need_none, need_all, after}
@@ -27,11 +27,11 @@ unfolding need
 need_next ok n k next v e q = q ∙ ap (λ (b : Bool). cond b next (refused n k)) (sym e)
 
 -- what a function's flag b says of its test, where the program tests `!b`
-pub flag_false : (b ok : Bool) → b ≡ ok → not b ≡ true → ok ≡ false
-flag_false b ok e f = sym e ∙ not-true b f
+pub flag_false : (b ok : Bool) → b ≡ ok → b ≡ false → ok ≡ false
+flag_false b ok e f = sym e ∙ f
 
-pub flag_true : (b ok : Bool) → b ≡ ok → not b ≡ false → ok ≡ true
-flag_true b ok e f = sym e ∙ not-false b f
+pub flag_true : (b ok : Bool) → b ≡ ok → b ≡ true → ok ≡ true
+flag_true b ok e f = sym e ∙ f
 
 -- a search that found an invalid place, and one that found none; `place` is what the program's search gave
 pub found : (n place p end : ℕ) (next v : Answer) → place ≡ p → place < end → v ≡ refused n place → v ≡ need_none n p end next

@@ -1,5 +1,7 @@
 // What every crate of the ledger is made of: a 32-bit word with its kind and its bits, and the
 // refusal of a call with its number and its place.
+#![tactic(auto)]
+
 ghost use Rattle.std.specs.Prelude.{◌≡◌, ◌^◌, ◌<◌};
 ghost use Rattle.words.specs.Bits.{bits, signed_bits, is_kind, within, word_of, BitRange};
 ghost use Rattle.words.specs.Answers.{refused, outcome, amount};
@@ -64,21 +66,21 @@ pub const LIST_LENGTHS: u32 = 19;
 pub const VALUE_TOO_LARGE: u32 = 20;
 
 // Why a call is refused, and where.
-#[derive(Drop)]
+#[derive(Clone, Copy)]
 pub struct Refusal {
     pub number: u32,
     pub place: usize,
 }
 
 // The answer of a call that returns nothing else.
-#[derive(Drop)]
+#[derive(Clone, Copy)]
 pub enum Outcome {
     Done,
     Refused(Refusal),
 }
 
 // The answer of a call that returns a number: tonnes, mm or ten-thousandths.
-#[derive(Drop)]
+#[derive(Clone, Copy)]
 pub enum Amount {
     Value(u32),
     Refused(Refusal),

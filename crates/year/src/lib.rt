@@ -1,4 +1,6 @@
 // A cell's year: what burns, what oxidises, and what both emit.
+#![tactic(auto)]
+
 ghost use Rattle.std.specs.Prelude.{◌≡◌, ◌+◌, ◌-◌, ◌^◌, ◌<◌, ◌≤◌, min};
 ghost use Rattle.fields.specs.Valid.{RowValid};
 ghost use Rattle.year.specs.Year.{unconverted, inactive, burned_by, oxidised_by, emission, kg_of, mm_of, loss_of, no_loss, opened, after_loss, planned, marked, most_loss};
@@ -7,7 +9,7 @@ ghost use Rattle.year.specs.Limits.{WithinLimits};
 use fields::{Cell, Head, Row};
 
 // What the book holds of a cell: its mark, its plan year, and the mm lost to date.
-#[derive(Drop)]
+#[derive(Clone, Copy)]
 pub struct Entry {
     pub withdrawn: bool,
     pub plan: u32,
@@ -16,14 +18,14 @@ pub struct Entry {
 }
 
 // The mm that a cell loses in a year.
-#[derive(Drop)]
+#[derive(Clone, Copy)]
 pub struct LostMm {
     pub oxidised: u32,
     pub burned: u32,
 }
 
 // What a cell loses in a year: mm, mm and kg, as its three lines say.
-#[derive(Drop)]
+#[derive(Clone, Copy)]
 pub struct Loss {
     pub oxidised: u32,
     pub burned: u32,

@@ -1,0 +1,47 @@
+-- `discount::root` meets its contract: every step is at least the root, and where the loop ends its square is not above n. Assumes nothing.
+use native.Mathlib.Omega.{arith}
+use native.Mathlib.Nat.{mul-le-mul}
+use mathlib.Core.Logic.{⊎_elim}
+use Rattle.discount.specs.Bounds.{root_limit}
+use Rattle.discount.proofs.Newton.{Between, root_positive, step_above, step_falls, step_between}
+use Rattle.discount.proofs.root.Goals as goal
+use Rattle.discount.proofs.root.Goals.{After-newton_step, After-newton_step-2, After-newton_step-r, Joined-n-lt16000000}
+
+-- each of the first three steps
+from : (c : Joined-n-lt16000000) → Between 2496 root_limit c.if-n-lt16000000.middle
+from c = ⊎_elim (λ t. record { low = omega (arith, t.1); high = omega (arith, t.1) }) (λ t. record { low = omega (arith, t.1); high = omega (arith, t.1) }) c.if-n-lt16000000.branch
+
+first : (c : After-newton_step) → Between 1248 root_limit c.newton_step.result
+first c = step_between _ _ _ 1248 root_limit (omega arith) (from c.before) c.newton_step.ensures
+
+second : (c : After-newton_step-2) → Between 624 root_limit c.newton_step-2.result
+second c = step_between _ _ _ 624 root_limit (omega arith) (first c.before) c.newton_step-2.ensures
+
+third : (c : After-newton_step-r) → Between 312 root_limit c.newton_step-r.result
+third c = step_between _ _ _ 312 root_limit (omega arith) (second c.before) c.newton_step-r.ensures
+
+pub newton_step-requires : goal.newton_step-requires
+newton_step-requires c = let b = from c in omega (arith, b.low, b.high)
+
+pub newton_step-requires-2 : goal.newton_step-requires-2
+newton_step-requires-2 c = let b = first c in omega (arith, b.low, b.high)
+
+pub newton_step-r-requires : goal.newton_step-r-requires
+newton_step-r-requires c = let b = second c in omega (arith, b.low, b.high)
+
+pub loop-r-init : goal.loop-r-init
+loop-r-init c = (step_above _ _ _ (let b = (second c.before).low in omega arith) c.newton_step-r.ensures, (third c).high)
+
+pub overflow_mul-r : goal.overflow_mul-r
+overflow_mul-r c = let h = c.loop-r.invariant.1 in omega (arith, mul-le-mul h h)
+
+pub newton_step-r-requires-in-loop-r : goal.newton_step-r-requires-in-loop-r
+newton_step-r-requires-in-loop-r c = let inv = c.loop-r.invariant in omega (arith, root_positive _ _ c.loop-r-test.true)
+
+pub loop-r-smaller : goal.loop-r-smaller
+loop-r-smaller c = step_falls _ _ _ c.loop-r-test.true c.newton_step-r-in-loop-r.ensures
+
+pub loop-r-preserved : goal.loop-r-preserved
+loop-r-preserved c = let test = c.loop-r-test.true in
+    let inv = c.loop-r.invariant.1 in
+    (step_above _ _ _ (root_positive _ _ test) c.newton_step-r-in-loop-r.ensures, omega (arith, step_falls _ _ _ test c.newton_step-r-in-loop-r.ensures))

@@ -1,0 +1,7 @@
+-- `fields::is_depth_word` meets its contract: its tests are the definition's. Assumes nothing.
+use Rattle.fields.specs.Words.{is_depth_word}
+use Rattle.fields.proofs.is_depth_word.Goals as goal
+
+pub returns : goal.returns
+unfolding is_depth_word
+returns c = rw (c.is_kind.ensures, c.bits.ensures, c.bits_within.ensures, c.bits_within-2.ensures)

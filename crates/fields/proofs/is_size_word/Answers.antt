@@ -1,0 +1,7 @@
+-- `fields::is_size_word` meets its contract: its tests are the definition's. Assumes nothing.
+use Rattle.fields.specs.Words.{is_size_word}
+use Rattle.fields.proofs.is_size_word.Goals as goal
+
+pub returns : goal.returns
+unfolding is_size_word
+returns c = rw (c.is_kind.ensures, c.bits_within.ensures, c.bits_within-2.ensures, c.bits_within-3.ensures)
