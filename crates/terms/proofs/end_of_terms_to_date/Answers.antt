@@ -16,12 +16,12 @@ module _ (c : After-yearly_term_of) where
 
   above : c.yearly_term_of.result.year ≤ c.args.year → Split c.args.listing.now c.args.year c.args.start (middle + 1) c.loop-low.high
   above h =
-      split_above _ _ _ c.loop-low.invariant c.pre.0 c.pre.1 middle (omega arith) (omega (arith, c.loop-low-test.true))
+      split_above _ _ _ c.loop-low.invariant c.requires.0 c.requires.1 middle (omega arith) (omega (arith, c.loop-low-test.true))
       (omega (arith, year_is _ _ c.yearly_term_of.ensures))
 
   below : c.args.year < c.yearly_term_of.result.year → Split c.args.listing.now c.args.year c.args.start c.loop-low.low middle
   below h =
-      split_below _ _ _ c.loop-low.invariant c.pre.0 c.pre.1 middle (omega arith) (omega (arith, c.loop-low-test.true))
+      split_below _ _ _ c.loop-low.invariant c.requires.0 c.requires.1 middle (omega arith) (omega (arith, c.loop-low-test.true))
       (omega (arith, year_is _ _ c.yearly_term_of.ensures))
 
 pub loop-low-preserved-then-yearly_term_of-year : goal.loop-low-preserved-then-yearly_term_of-year
