@@ -1,5 +1,7 @@
 // The book: where its words are and what they hold, its check, and the refusals with which every
 // call begins. Each takes the book's shape.
+#![tactic(auto)]
+
 ghost use Rattle.std.specs.Prelude.{◌≡◌, true, ◌+◌, ◌*◌, ◌^◌, ◌<◌, ◌≤◌, length, set};
 ghost use Rattle.words.specs.Bits.{word_of};
 ghost use Rattle.words.specs.Search.{first_invalid};

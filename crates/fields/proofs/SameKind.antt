@@ -1,10 +1,9 @@
 -- The kinds of many words, tested at once: what differs from a kind is joined by `|`. Assumes nothing.
-use mathlib.Core.Path.{◌≡◌, refl, sym, ap, ◌∙◌}
+use mathlib.Core.Path.{◌≡◌, sym, ap, ◌∙◌}
 use mathlib.Core.Bool.{true}
-use Prim.Native.Nat.{ℕ, ◌+◌, ◌*◌, ◌/◌, ◌%◌, ◌^◌, ◌≤◌, ◌<◌}
+use Prim.Native.Nat.{ℕ, ◌+◌, ◌*◌, ◌/◌, ◌%◌, ◌^◌, ◌<◌}
 use native.Mathlib.Omega.{arith}
-use lib.Dec.{eqb}
-use lib.Bits.{bit_and, bit_or, bit_xor, and_le_l, and_le_r, or_add_and, xor_add_and, xor_self, or_shr, or_mod, xor_shr, xor_lt}
+use lib.Bits.{bit_or, bit_xor, and_le_l, and_le_r, or_add_and, xor_add_and, xor_self, or_shr, or_mod, xor_shr, xor_lt}
 use borrow.Author.Tests.{eqb-true, eq-eqb, ne_eqb}
 use Rattle.words.specs.Bits.{bits, is_kind, word_of}
 use Rattle.words.proofs.Signed.{by_equal}

@@ -1,10 +1,10 @@
 -- `decode::decode` meets its contract: iteration i stores word i. Assumes nothing.
 use mathlib.Core.Path.{refl, ap}
 use mathlib.Core.List.{[], ◌∷◌}
-use Prim.Native.Nat.{ℕ, ◌-◌}
+use Prim.Native.Nat.{ℕ}
 use native.Mathlib.Omega.{arith}
 use Rattle.words.proofs.Blocks.{filling_none, filling_stored, filling_all}
-use Rattle.decode.specs.Decode.{word_at, decoded}
+use Rattle.decode.specs.Decode.{decoded}
 use Rattle.decode.proofs.decode.Goals as goal
 
 pub loop-i-init : goal.loop-i-init
@@ -12,9 +12,8 @@ loop-i-init c = filling_none (λ k. refl) (omega arith)
 
 pub loop-i-preserved : goal.loop-i-preserved
 loop-i-preserved c =
-    let t = c in
-    filling_stored t.loop-i.invariant c.loop-i-test.true t.loop-i.i (omega arith) _ (ap (λ (w : ℕ). w ∷ []) c.word_at.ensures)
+    filling_stored c.loop-i.invariant c.loop-i-test.true c.loop-i.i (omega arith) _ (ap (λ (w : ℕ). w ∷ []) c.word_at.ensures)
 
 pub returns : goal.returns
 unfolding decoded
-returns c = (refl, filling_all c.loop-i.invariant c.loop-i-test.false)
+returns c = record { value = refl; words_after = filling_all c.loop-i.invariant c.loop-i-test.false }

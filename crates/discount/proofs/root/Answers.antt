@@ -1,15 +1,18 @@
 -- `discount::root` meets its contract: every step is at least the root, and where the loop ends its square is not above n. Assumes nothing.
 use native.Mathlib.Omega.{arith}
 use native.Mathlib.Nat.{mul-le-mul}
-use mathlib.Core.Logic.{⊎_elim}
 use Rattle.discount.specs.Bounds.{root_limit}
 use Rattle.discount.proofs.Newton.{Between, root_positive, step_above, step_falls, step_between}
 use Rattle.discount.proofs.root.Goals as goal
-use Rattle.discount.proofs.root.Goals.{After-newton_step, After-newton_step-2, After-newton_step-r, Joined-n-lt16000000}
+use Rattle.discount.proofs.root.Goals.{After-newton_step, After-newton_step-2, After-newton_step-r, Joined-n-lt16000000, else-n-lt16000000, then-n-lt16000000}
 
 -- each of the first three steps
 from : (c : Joined-n-lt16000000) → Between 2496 root_limit c.if-n-lt16000000.middle
-from c = ⊎_elim (λ t. record { low = omega (arith, t.1); high = omega (arith, t.1) }) (λ t. record { low = omega (arith, t.1); high = omega (arith, t.1) }) c.if-n-lt16000000.branch
+from c =
+    elim c.if-n-lt16000000.branch [
+      | then-n-lt16000000 w ↦ record { low = omega arith; high = omega arith }
+      | else-n-lt16000000 w ↦ record { low = omega arith; high = omega arith }
+    ]
 
 first : (c : After-newton_step) → Between 1248 root_limit c.newton_step.result
 first c = step_between _ _ _ 1248 root_limit (omega arith) (from c.before) c.newton_step.ensures

@@ -1,10 +1,10 @@
 -- `discount::stock_sums` meets its contract: the pools before i are not too large, and the sums so far and what is left make the whole. Assumes nothing.
-use Prim.Native.Nat.{◌+◌, ◌-◌}
+use mathlib.Core.Path.{sym, ◌∙◌}
+use Prim.Native.Nat.{◌+◌}
 use native.Mathlib.Omega.{arith}
 use lib.ListN.{get_or}
 use mir.Val.{Fits}
 use mir.Syntax.{w64}
-use Rattle.words.proofs.Answers.{flag_true}
 use Rattle.discount.proofs.Bounds.{lengths}
 use Rattle.discount.proofs.Pools.{passed_fits, pools}
 use Rattle.discount.proofs.stock_sums.Goals as goal
@@ -12,14 +12,9 @@ use Rattle.discount.proofs.stock_sums.Goals.{Else-not-pool_valid}
 
 -- the sums with this pool's stocks
 fits : (c : Else-not-pool_valid) →
-    let l = c.before.before.before.before.before.before.before in
-    let a = l.args in
-    Fits w64 (l.loop-i.first + get_or a.first_stocks.now l.loop-i.i 0) × Fits w64 (l.loop-i.second + get_or a.second_stocks.now l.loop-i.i 0)
-fits c =
-    let v = c.before in
-    let t = v.before.before.before.before.before in
-    let l = t.before in
-    passed_fits l.loop-i.invariant l.requires t.loop-i-test.true (flag_true _ _ v.pool_valid.ensures c.if-not-pool_valid.false)
+    let l = c.loop-i in
+    Fits w64 (l.first + get_or c.args.first_stocks.now l.i 0) × Fits w64 (l.second + get_or c.args.second_stocks.now l.i 0)
+fits c = passed_fits c.loop-i.invariant c.requires c.loop-i-test.true (sym c.pool_valid.ensures ∙ c.if-not-pool_valid.false)
 
 pub loop-i-init : goal.loop-i-init
 loop-i-init c = search pools

@@ -1,5 +1,4 @@
 -- `listing::first_invalid_cell_word` meets its contract: a pass finds all valid, or else the search has come to `at`. Assumes nothing.
-use Prim.Native.Nat.{◌-◌}
 use Rattle.words.proofs.Steps.{steps}
 use Rattle.listing.proofs.first_invalid_cell_word.Goals as goal
 

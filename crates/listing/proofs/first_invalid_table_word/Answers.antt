@@ -1,6 +1,5 @@
 -- `listing::first_invalid_table_word` meets its contract: a pass finds all valid, or else both loops' invariants have `Passed`, that the search has
 -- come to `at`; the rest of them says where `at` is. Assumes nothing.
-use Prim.Native.Nat.{◌-◌}
 use native.Mathlib.Nat.{mul-le-mul_right}
 use native.Mathlib.Omega.{arith}
 use Rattle.words.proofs.Steps.{passed_on, passed_failed, passed_all, row_within, steps}

@@ -1,5 +1,4 @@
 -- `listing::first_invalid_term` meets its contract: the search has come to `at`. Assumes nothing.
-use Prim.Native.Nat.{◌-◌}
 use Rattle.words.proofs.Steps.{steps}
 use Rattle.listing.proofs.first_invalid_term.Goals as goal
 

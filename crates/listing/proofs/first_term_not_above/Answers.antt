@@ -1,5 +1,4 @@
 -- `listing::first_term_not_above` meets its contract: the search has come to `at`. Assumes nothing.
-use Prim.Native.Nat.{◌-◌}
 use Rattle.words.proofs.Steps.{steps}
 use Rattle.listing.proofs.first_term_not_above.Goals as goal
 

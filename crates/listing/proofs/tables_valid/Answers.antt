@@ -1,7 +1,7 @@
 -- `listing::tables_valid` meets its contract: while the faults are of kind 0, the search has come to `at`. Assumes nothing.
 use mathlib.Core.Path.{◌≡◌, sym, ◌∙◌}
 use mathlib.Core.Bool.{Bool, true, ◌&&◌}
-use Prim.Native.Nat.{ℕ, ◌+◌, ◌-◌, ◌<◌}
+use Prim.Native.Nat.{ℕ, ◌+◌, ◌<◌}
 use lib.Bits.{bit_or}
 use Rattle.words.specs.Bits.{is_kind}
 use Rattle.words.proofs.Steps.{ValidSoFar, so_far_none, so_far_more, so_far_all, steps}

@@ -27,9 +27,7 @@ unfolding nan_bits
 float_from_bits-result c = tt
 
 pub returns-then-x : goal.returns-then-x
-unfolding nan_bits
 returns-then-x c = below c.args.x c.if-x.true
 
 pub returns : goal.returns
-unfolding nan_bits
 returns c = not_below c.args.x c.if-x.false

@@ -1,5 +1,5 @@
 -- `reading::refuse_pair` meets its contract: each return is the case of the definition that its tests picked. Assumes nothing.
-use Rattle.words.proofs.Answers.{flag_true}
+use mathlib.Core.Path.{sym, ◌∙◌}
 use Rattle.reading.specs.Depth.{levels}
 use Rattle.reading.proofs.Lowest.{depths}
 use Rattle.reading.proofs.refuse_pair.Goals as goal
@@ -18,4 +18,4 @@ returns-then-not-in_level c = search depths depth 8 fits 9000
 
 pub returns : goal.returns
 unfolding levels
-returns c = let e = c.before in let base = e.requires (flag_true _ _ e.in_level.ensures e.if-not-in_level.false) in search depths depth 8 fits 9000
+returns c = let base = c.requires (sym c.in_level.ensures ∙ c.if-not-in_level.false) in search depths depth 8 fits 9000

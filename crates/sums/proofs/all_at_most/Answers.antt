@@ -1,5 +1,4 @@
 -- `sums::all_at_most` meets its contract: the values before i are not above `most`, so the test of the rest is the whole test. Assumes nothing.
-use Prim.Native.Nat.{◌-◌}
 use Rattle.sums.proofs.Steps.{sums}
 use Rattle.sums.proofs.all_at_most.Goals as goal
 

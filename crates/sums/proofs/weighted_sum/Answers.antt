@@ -1,5 +1,4 @@
 -- `sums::weighted_sum` meets its contract: the sum so far and what is left make the whole, which fits. Assumes nothing.
-use Prim.Native.Nat.{◌-◌}
 use native.Mathlib.Omega.{arith}
 use Rattle.sums.proofs.Steps.{sums}
 use Rattle.sums.proofs.weighted_sum.Goals as goal

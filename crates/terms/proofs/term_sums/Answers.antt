@@ -1,5 +1,4 @@
 -- `terms::added` meets its contract: of both sums, what is summed and what is left make the whole. Assumes nothing.
-use Prim.Native.Nat.{◌-◌}
 use mir.Syntax.{w64}
 use borrow.Author.Rules.{rules}
 use Rattle.words.proofs.Signed.{call_reads}
