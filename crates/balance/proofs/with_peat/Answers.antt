@@ -6,12 +6,11 @@ use lib.IntN.{ℤ, pos, nat_abs}
 use mir.Syntax.{w64}
 use mir.Val.{to_z, of_z}
 use mir.Facts.{to_z-of_z, to_z_pos}
-use borrow.Author.Rules.{rules}
 use Rattle.words.proofs.Signed.{add_fits, add_reads}
-use Rattle.balance.proofs.with_peat.Statement.{statement}
-use Rattle.balance.proofs.with_peat.Tie as tie
+use Rattle.balance.proofs.with_peat.Goals as goal
+use Rattle.balance.proofs.with_peat.Goals.{Start}
 
-module _ (c : tie.Start) where
+module _ (c : Start) where
   abbrev peat : ℕ
   peat = c.args.peat
 
@@ -27,10 +26,8 @@ module _ (c : tie.Start) where
   given : to_z w64 (of_z w64 terms) ≡ terms
   given = to_z-of_z c.ranges.terms
 
-pub with-peat-spec : {M : Type 1} → statement M
-with-peat-spec =
-    tie.close
-    (tie.spec
-    (λ c. search rules)
-    (λ c. add_fits w64 (pos (peat c)) (plain c) (terms c) (given c) (fits c))
-    (λ c. add_reads w64 (pos (peat c)) (plain c) (terms c) (given c) (fits c)))
+pub overflow_add-result : goal.overflow_add-result
+overflow_add-result c = add_fits w64 (pos (peat c)) (plain c) (terms c) (given c) (fits c)
+
+pub returns : goal.returns
+returns c = add_reads w64 (pos (peat c)) (plain c) (terms c) (given c) (fits c)
