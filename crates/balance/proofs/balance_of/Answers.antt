@@ -63,7 +63,7 @@ withheld-requires c = (omega (arith, percent (goal.at.withheld-requires c).After
 -- N, and what is withheld
 module _ (c : After-withheld) where
   abbrev s : Start
-  s = c
+  s = (goal.at.After-withheld c).Start
 
   abbrev n : ℤ
   n = date s 8

@@ -20,7 +20,7 @@ module _ (s : Start) where
   capacity = omega (arith, s.requires.0, s.requires.2)
 
   balance : to_z w64 (of_z w64 z) ≡ z
-  balance = to_z-of_z s.fits.balance
+  balance = to_z-of_z s.ranges.balance
 
   issued : to_z w64 s.args.issued ≡ pos s.args.issued
   issued = to_z_pos w64 (omega (arith, capacity))
@@ -36,3 +36,6 @@ module _ (c : After-at_least_0) where
 pub overflow_cast-result : goal.overflow_cast-result
 unfolding due
 overflow_cast-result c = omega (arith, is c, at_least_0_less (z (goal.at.overflow_cast-result c).Start) c.args.issued, c.requires.1)
+
+pub returns : goal.returns
+returns c = is c

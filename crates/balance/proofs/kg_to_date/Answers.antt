@@ -1,7 +1,7 @@
 -- `balance::kg_to_date` meets its contract: in iteration i the sum is that of the first i cells. Assumes nothing.
 use mathlib.Core.Path.{◌≡◌, ap, ◌∙◌}
 use mathlib.Core.List.{List}
-use Prim.Native.Nat.{ℕ, ◌+◌, ◌-◌, ◌^◌, ◌<◌}
+use Prim.Native.Nat.{ℕ, ◌+◌, ◌^◌, ◌<◌}
 use native.Mathlib.Omega.{arith}
 use Rattle.words.specs.Sums.{sum_below}
 use Rattle.words.proofs.Sums.{sum_none}
@@ -24,7 +24,7 @@ module _ (a : At-loop-i) where
   count = ap (λ (h : Head). h.cells) a.head-h.ensures
 
 below : (c : In-loop-i) → c.loop-i.i < cells (l (goal.at.In-loop-i c).At-loop-i)
-below c = omega (arith, count c.before, c.loop-i-test.true)
+below c = omega (arith, count (goal.at.In-loop-i c).At-loop-i, c.loop-i-test.true)
 
 pub loop-i-init : goal.loop-i-init
 loop-i-init c = (omega arith, sum_none _)
@@ -42,7 +42,7 @@ kg_of-requires c =
 iterations : (c : After-kg_of) →
     (c.loop-i.kg + c.kg_of.result ≡ sum_below (kg_to_date (l (goal.at.After-kg_of c).At-loop-i) (b (goal.at.After-kg_of c).At-loop-i)) (c.loop-i.i + 1)) × (c.loop-i.kg + c.kg_of.result < 2 ^ 64)
 iterations c =
-    kg_next (l c) (b c) c.requires c.head-h.ensures c.cell-c.ensures c.words_of.ensures (below c.before.before.before)
+    kg_next (l (goal.at.After-kg_of c).At-loop-i) (b (goal.at.After-kg_of c).At-loop-i) c.requires c.head-h.ensures c.cell-c.ensures c.words_of.ensures (below (goal.at.After-kg_of c).In-loop-i)
     c.loop-i.invariant.1
     c.kg_of.ensures
 

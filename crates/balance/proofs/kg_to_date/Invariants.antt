@@ -2,7 +2,6 @@
 use mathlib.Core.Path.{◌≡◌}
 use Prim.Native.Nat.{◌-◌, ◌≤◌}
 use Rattle.words.specs.Sums.{sum_below}
-use Rattle.listing.specs.Layout.{cells}
 use Rattle.book.specs.Current.{kg_to_date}
 use Rattle.balance.proofs.kg_to_date.Given as goal
 

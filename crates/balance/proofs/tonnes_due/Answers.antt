@@ -19,9 +19,8 @@ module _ (c : After-balance_of-balance) where
 
 pub due-requires : goal.due-requires
 due-requires c =
-    let s = c in
-    let fits = balance_fits s.args.listing.now s.args.book.now s.requires in
-    rw (balance (goal.at.due-requires c).After-balance_of-balance) (fits.0, fits.1, omega (arith, c.issued.ensures, s.requires.issued))
+    let fits = balance_fits c.args.listing.now c.args.book.now c.requires in
+    rw (balance (goal.at.due-requires c).After-balance_of-balance) (fits.0, fits.1, omega (arith, c.issued.ensures, c.requires.issued))
 
 pub returns : goal.returns
 returns c = c.due.ensures ∙ ap₂ due (balance (goal.at.returns c).After-balance_of-balance) c.issued.ensures

@@ -1,5 +1,4 @@
 -- `closing::close_cells` meets its contract: iteration i is lent cell i's words as they were at the start, and leaves the closed ones. Assumes nothing.
-use Prim.Native.Nat.{◌-◌}
 use native.Mathlib.Omega.{arith}
 use lib.ListN.{length-take, length-drop}
 use Rattle.book.proofs.AcceptedBook.{shaped}

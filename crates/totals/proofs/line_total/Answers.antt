@@ -1,5 +1,5 @@
 -- `totals::line_total` meets its contract: in iteration i the sum is that of the first i cells, below 2 ^ 28 each. Assumes nothing.
-use Prim.Native.Nat.{◌+◌, ◌-◌, ◌*◌}
+use Prim.Native.Nat.{◌+◌, ◌*◌}
 use native.Mathlib.Nat.{le_antisymm}
 use native.Mathlib.Omega.{arith}
 use lib.ListN.{get_or}
