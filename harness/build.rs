@@ -1,9 +1,9 @@
-// Links the archive that `rt staticlib capi` wrote.
+// Links the archive that `rt lib` wrote in crates/capi.
 fn main() {
-    let dir = std::path::Path::new(env!("CARGO_MANIFEST_DIR")).join("../target/staticlib");
+    let dir = std::path::Path::new(env!("CARGO_MANIFEST_DIR")).join("../crates/capi/out");
     let dir = dir
         .canonicalize()
-        .expect("run `rt staticlib capi` in the repository first");
+        .expect("run `rt lib` in crates/capi first");
     println!("cargo::rustc-link-search=native={}", dir.display());
     println!("cargo::rustc-link-lib=static=capi");
     println!(

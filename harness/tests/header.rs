@@ -22,7 +22,7 @@ fn a_c_program_gets_the_worked_figures() {
         .arg("-I")
         .arg(root.join("include"))
         .arg(root.join("harness/tests/header.c"))
-        .arg(root.join("target/staticlib/libcapi.a"))
+        .arg(root.join("crates/capi/out/libcapi.a"))
         .arg("-o")
         .arg(&program)
         .status()

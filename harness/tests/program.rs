@@ -5,13 +5,13 @@ use std::fs;
 use std::io::Write;
 use std::process::{Command, Output, Stdio};
 
-const PEATRUN: &str = concat!(env!("CARGO_MANIFEST_DIR"), "/../target/bin/peatrun");
+const PEATRUN: &str = concat!(env!("CARGO_MANIFEST_DIR"), "/../crates/peatrun/out/peatrun");
 
 fn run(command: &mut Command, input: &[u8]) -> Output {
     let command = command.stdout(Stdio::piped()).stderr(Stdio::piped());
     let mut child = command
         .spawn()
-        .expect("run `rt check` in the repository first");
+        .expect("run `rt run` in crates/peatrun first");
     if let Some(mut stdin) = child.stdin.take() {
         // A program that has read enough may leave; what it printed is looked at below.
         let _ = stdin.write_all(input);

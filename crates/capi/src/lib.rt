@@ -1,5 +1,7 @@
 // The calls for C and Rust: numbers and slices cross the border, and answers as structs. A slice is
 // a pointer and then its length; include/peat.h has the declarations.
+#![tactic(auto)]
+
 ghost use Rattle.std.specs.Prelude.{◌≡◌};
 ghost use Rattle.words.specs.Answers.{accepted, refused, outcome, amount};
 ghost use Rattle.ledger.specs.Calls.{open_effect, close_effect, replan_effect, withdraw_effect, issue_effect, stated, statement_answer};

@@ -1,5 +1,7 @@
 // Reads a listing's words from standard input, closes every year and issues after each. It prints a
 // line for each year, and what is left; or why the input is refused. It stops at a write that fails.
+#![tactic(auto)]
+
 ghost use Rattle.std.specs.Prelude.{◌≡◌, true, ◌*◌, ◌^◌, ◌≤◌, ◌<◌, ltb, length};
 ghost use Rattle.words.specs.Answers.{outcome};
 ghost use Rattle.words.specs.Refusals.{too_few_words, term_not_above};
@@ -13,8 +15,8 @@ ghost use Rattle.peatrun.specs.Years.{most_bytes, RefusedByListing, InYear, Ran,
 use book::{BOOK, LINE_WORDS};
 use fields::MOST_CELLS;
 use ledger::Stated;
-use libc::{STDERR_FILENO, STDIN_FILENO, STDOUT_FILENO};
 use listing::MOST_WORDS;
+use std::io::Read;
 use words::{Amount, Outcome, Refusal};
 
 // The sizes of the buffers: the bytes of the longest listing, the book and the lines of the most
@@ -33,14 +35,12 @@ enum Input {
 }
 
 // Reads until `buffer` is full or the input ends. A read that fails is not the end of the input.
-fn read(buffer: &mut [u8]) -> Input {
+fn read(input: &mut impl Read, buffer: &mut [u8]) -> Input {
     let mut done: usize = 0;
     while done < buffer.len() {
-        let got = libc::read(STDIN_FILENO, &mut buffer[done..]);
-        if got < 0 {
+        let Ok(n) = input.read(&mut buffer[done..]) else {
             return Input::Failed;
-        }
-        let n = io::count(got, &buffer[done..]);
+        };
         if n == 0 {
             break;
         }
@@ -50,43 +50,43 @@ fn read(buffer: &mut [u8]) -> Input {
 }
 
 // Each function that prints answers whether all of it was written.
-fn print(text: &[u8]) -> bool {
-    io::write_all(STDOUT_FILENO, text)
+fn print(rt: &impl Print, text: &[u8]) -> bool {
+    rt.write_all(text).is_ok()
 }
 
 // A number, and what follows it.
-fn print_number(n: u64, then: &[u8]) -> bool {
-    io::print_decimal(STDOUT_FILENO, n) && print(then)
+fn print_number(rt: &impl Print, n: u64, then: &[u8]) -> bool {
+    rt.print(n).is_ok() && print(rt, then)
 }
 
 // The word refused, its number and its place. Only a listing is refused here, by 1 to 5.
-fn print_refused(why: Refusal) -> bool
+fn print_refused(rt: &impl Print, why: Refusal) -> bool
     requires { (too_few_words ≤ why.number) × (why.number ≤ term_not_above) }
 {
-    print(b"refused ")
-        && print_number(why.number as u64, b" ")
-        && print_number(why.place as u64, b"\n")
+    print(rt, b"refused ")
+        && print_number(rt, why.number as u64, b" ")
+        && print_number(rt, why.place as u64, b"\n")
 }
 
 // Prints the refusal of an answer.
-fn print_refusal(answer: Outcome) -> bool
+fn print_refusal(rt: &impl Print, answer: Outcome) -> bool
     requires { RefusedByListing (outcome answer) }
 {
     match answer {
         Outcome::Done => true,
-        Outcome::Refused(why) => print_refused(why),
+        Outcome::Refused(why) => print_refused(rt, why),
     }
 }
 
 // A year's line: mm oxidised, mm burned and kg over all cells, and the tonnes issued.
-fn print_year(year: u32, lines: &[u32], tonnes: u32) -> bool
+fn print_year(rt: &impl Print, year: u32, lines: &[u32], tonnes: u32) -> bool
     requires { length lines.now ≤ 2 ^ 32 }
 {
-    print_number(year as u64, b" ")
-        && print_number(totals::line_total(lines, 0), b" ")
-        && print_number(totals::line_total(lines, 1), b" ")
-        && print_number(totals::line_total(lines, 2), b" ")
-        && print_number(tonnes as u64, b"\n")
+    print_number(rt, year as u64, b" ")
+        && print_number(rt, totals::line_total(lines, 0), b" ")
+        && print_number(rt, totals::line_total(lines, 1), b" ")
+        && print_number(rt, totals::line_total(lines, 2), b" ")
+        && print_number(rt, tonnes as u64, b"\n")
 }
 
 // Closes the year after the current one and issues: the tonnes. Neither call is refused, by the
@@ -107,7 +107,7 @@ fn run_year(listing: &[u32], book: &mut [u32], lines: &mut [u32]) -> u32
 }
 
 // Every year of a book in year 0, unless a line cannot be written.
-fn run_years(listing: &[u32], book: &mut [u32], lines: &mut [u32]) -> bool
+fn run_years(rt: &impl Print, listing: &[u32], book: &mut [u32], lines: &mut [u32]) -> bool
     requires { InYear listing.now book.old 0 × (length lines.old ≡ line_words * cells listing.now) }
     ensures new_book { (admitted listing.now book.new).done ≡ true }
     ensures book_value { result ≡ true → book.exit.now ≡ (ran_for listing.now (record { book = book.entry.now; lines = lines.old }) (horizon listing.now)).book }
@@ -117,7 +117,7 @@ fn run_years(listing: &[u32], book: &mut [u32], lines: &mut [u32]) -> bool
     while year < horizon {
         year += 1;
         let tonnes = run_year(listing, book, lines);
-        if !print_year(year, lines, tonnes) {
+        if !print_year(rt, year, lines, tonnes) {
             return false;
         }
     }
@@ -152,35 +152,35 @@ fn remaining_total(listing: &[u32], book: &[u32]) -> u64
     sum
 }
 
-fn print_remaining(listing: &[u32], book: &[u32]) -> bool
+fn print_remaining(rt: &impl Print, listing: &[u32], book: &[u32]) -> bool
     requires { (admitted listing.now book.now).done ≡ true }
 {
-    print(b"left ") && print_number(remaining_total(listing, book), b"\n")
+    print(rt, b"left ") && print_number(rt, remaining_total(listing, book), b"\n")
 }
 
 // The table of an opened book, with space for its lines.
-fn run_opened(listing: &[u32], book: &mut [u32], lines: &mut [u32]) -> bool
+fn run_opened(rt: &impl Print, listing: &[u32], book: &mut [u32], lines: &mut [u32]) -> bool
     requires { InYear listing.now book.old 0 × (line_words * cells listing.now ≤ length lines.old) }
 {
-    if !print(b"year ox burn kg issued\n") {
+    if !print(rt, b"year ox burn kg issued\n") {
         return false;
     }
     let end = LINE_WORDS * listing::head(listing).cells as usize;
-    if !run_years(listing, book, &mut lines[0..end]) {
+    if !run_years(rt, listing, book, &mut lines[0..end]) {
         return false;
     }
-    print_remaining(listing, &book[..])
+    print_remaining(rt, listing, &book[..])
 }
 
 // The table of a listing, or its refusal.
-fn run(listing: &[u32]) -> bool {
+fn run(rt: &impl Print, listing: &[u32]) -> bool {
     let mut book = [0u32; MOST_BOOK_WORDS];
     let opened = ledger::open(listing, &mut book);
     let Outcome::Done = opened else {
-        return print_refusal(opened);
+        return print_refusal(rt, opened);
     };
     let mut lines = [0u32; MOST_LINE_WORDS];
-    run_opened(listing, &mut book, &mut lines)
+    run_opened(rt, listing, &mut book, &mut lines)
 }
 
 // Whether so many bytes are more than the longest listing has.
@@ -191,33 +191,30 @@ fn too_long(count: usize) -> bool
 }
 
 // What is printed for bytes that are not too many.
-fn answer(bytes: &[u8]) -> bool
+fn answer(rt: &impl Print, bytes: &[u8]) -> bool
     requires { length bytes.now ≤ most_bytes }
 {
     if bytes.len() % 4 != 0 {
-        return print(b"odd bytes\n");
+        return print(rt, b"odd bytes\n");
     }
     let mut words = [0u32; MOST_WORDS];
     let n = decode::decode(bytes, &mut words);
-    run(&words[0..n])
+    run(rt, &words[0..n])
 }
 
-fn main() {
+fn main(rt: HostRuntime) {
     let mut buffer = [0u8; MOST_BYTES + 1];
-    let input = read(&mut buffer);
+    let input = read(&mut rt.stdin(), &mut buffer);
     let Input::Bytes(count) = input else {
-        io::write_all(STDERR_FILENO, b"peatrun: standard input cannot be read\n");
+        let _ = eprintln!(rt; "peatrun: standard input cannot be read");
         return;
     };
     let written = if too_long(count) {
-        print(b"too long\n")
+        print(&rt, b"too long\n")
     } else {
-        answer(&buffer[0..count])
+        answer(&rt, &buffer[0..count])
     };
     if !written {
-        io::write_all(
-            STDERR_FILENO,
-            b"peatrun: standard output cannot be written\n",
-        );
+        let _ = eprintln!(rt; "peatrun: standard output cannot be written");
     }
 }
