@@ -192,6 +192,7 @@ fn first_invalid_word(s: Shape, listing: &[u32], h: Head, book: &[u32], end: usi
 }
 
 // Number 6, for a valid listing.
+#[tactic(auto, using(words::proofs::Answers::answers), unfolding(crate::specs::Check::capacity_checked))]
 pub fn check_capacity(s: Shape, listing: &[u32], book: &[u32]) -> Outcome
     requires { Shaped s × Accepted listing.now }
     ensures { outcome result ≡ capacity_checked s listing.now book.now }

@@ -42,6 +42,7 @@ pub fn cell_loss(listing: &[u32], h: Head, c: Cell, e: Entry, before: u32, year:
 
 // Number 9, for a valid book. Number 14 comes after it, and is proved not to arise: no kg line is
 // above `most_line` of year/specs/Year.antt.
+#[tactic(auto, using(words::proofs::Answers::answers), unfolding(crate::specs::Closing::year_checked))]
 fn check_year(listing: &[u32], book: &[u32]) -> Outcome
     requires { AcceptedBook listing.now book.now }
     ensures { outcome result ≡ year_checked listing.now book.now }

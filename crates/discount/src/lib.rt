@@ -115,6 +115,7 @@ fn rounded_down(q: u64, d: u64) -> u32
     9_999 - root(((100_000_000 * q - 1) / (d * d)) as u32)
 }
 
+#[tactic(auto, using(crate::proofs::Meaning::no_distance))]
 fn factor(q: u64, d: u64) -> u32
     requires { (q ≤ 2 * most_squares) × (d ≤ most_stock) }
     ensures { result ≡ factor q d }

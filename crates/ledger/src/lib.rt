@@ -65,6 +65,7 @@ pub fn close(listing: &[u32], book: &mut [u32], lines: &mut [u32]) -> Outcome
 }
 
 // Number 10, for a valid listing.
+#[tactic(auto, using(words::proofs::Answers::answers), unfolding(crate::specs::Calls::cell_checked))]
 fn check_cell(listing: &[u32], cell: usize) -> Outcome
     requires { Accepted listing.now }
     ensures { outcome result ≡ cell_checked listing.now cell }
@@ -87,6 +88,7 @@ fn admit_cell(listing: &[u32], book: &[u32], cell: usize) -> Outcome
 }
 
 // Number 11.
+#[tactic(auto, using(words::proofs::Answers::answers), unfolding(crate::specs::Calls::mark_checked))]
 fn check_mark(book: &[u32], cell: usize) -> Outcome
     requires { CellInBook book.now cell }
     ensures { outcome result ≡ mark_checked book.now cell }

@@ -39,6 +39,7 @@ pub struct Offsets {
     pub terms: usize,
 }
 
+#[tactic(auto, using(crate::proofs::Accepted::offset_depth, crate::proofs::Accepted::not_depth))]
 fn is_cell_word(w: u32, strata: u32, horizon: u32, offset: usize) -> bool
     ensures { result ≡ is_cell_word strata horizon offset w }
 {
@@ -243,6 +244,7 @@ pub fn cell(listing: &[u32], h: Head, i: usize) -> Cell
 }
 
 // Numbers 4 and 5, for the words after the head, whose parts begin at `s`.
+#[tactic(auto, using(words::proofs::Answers::answers), unfolding(crate::specs::Check::words_checked))]
 fn check_words(listing: &[u32], h: Head, s: Offsets) -> Outcome
     requires { Contiguous h s × (s.terms ≤ length listing.now) }
     ensures { outcome result ≡ words_checked listing.now h s }

@@ -2,12 +2,9 @@
 use mathlib.Core.Path.{◌∙◌}
 use native.Mathlib.Omega.{arith}
 use borrow.Author.Rules.{rules}
-use Rattle.discount.proofs.Meaning.{no_distance, no_discount, too_wide, between}
+use Rattle.discount.proofs.Meaning.{no_discount, too_wide, between}
 use Rattle.discount.proofs.Bounds.{nine_fits}
 use Rattle.discount.proofs.factor.Goals as goal
-
-pub returns-then-d-eq0 : goal.returns-then-d-eq0
-returns-then-d-eq0 c = no_distance _ _ c.if-d-eq0.true
 
 pub overflow_mul-d-2 : goal.overflow_mul-d-2
 overflow_mul-d-2 c = search (rules, nine_fits)

@@ -29,12 +29,6 @@ loop-at-preserved c = (search steps, faults-more _ _ c.loop-at.invariant.1 (sear
 pub loop-at-init : goal.loop-at-init
 loop-at-init c = (search steps, so_far_none)
 
-pub offset_bounds-listing-at : goal.offset_bounds-listing-at
-offset_bounds-listing-at c = search steps
-
-pub bounds-listing-at : goal.bounds-listing-at
-bounds-listing-at c = search steps
-
 pub table_fault-faults-requires : goal.table_fault-faults-requires
 table_fault-faults-requires c = search steps
 

@@ -6,20 +6,8 @@ use Rattle.sums.proofs.weighted_sum.Goals as goal
 pub loop-i-init : goal.loop-i-init
 loop-i-init c = search sums
 
-pub offset_bounds-weights-i : goal.offset_bounds-weights-i
-offset_bounds-weights-i c = search sums
-
-pub bounds-weights-i : goal.bounds-weights-i
-bounds-weights-i c = search sums
-
 pub overflow_cast-sum : goal.overflow_cast-sum
 overflow_cast-sum c = omega (arith, c.type_inv.weights c.loop-i.i)
-
-pub offset_bounds-values-i : goal.offset_bounds-values-i
-offset_bounds-values-i c = search sums
-
-pub bounds-values-i : goal.bounds-values-i
-bounds-values-i c = search sums
 
 pub overflow_cast-sum-in-loop-i : goal.overflow_cast-sum-in-loop-i
 overflow_cast-sum-in-loop-i c = omega (arith, c.type_inv.values c.loop-i.i)
