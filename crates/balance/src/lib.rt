@@ -1,5 +1,7 @@
 // The balance of a listing and its book: peat tonnes, N and S to date, what is withheld, and what
 // an issue pays.
+#![tactic(auto)]
+
 ghost use Rattle.std.specs.Prelude.{◌≡◌, ◌≤◌, ◌<◌, ◌^◌, pos, nat_abs, ◌+ℤ◌};
 ghost use Rattle.words.specs.Bits.{at_least_0};
 ghost use Rattle.words.specs.Sums.{sum_below};

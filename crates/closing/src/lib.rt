@@ -1,4 +1,6 @@
 // The closing of a year: the tests decide, and only then is anything written, cell by cell.
+#![tactic(auto)]
+
 ghost use Rattle.std.specs.Prelude.{◌≡◌, false, ◌+◌, ◌<◌, ◌≤◌, length};
 ghost use Rattle.words.specs.Blocks.{filled};
 ghost use Rattle.words.specs.Answers.{outcome, after};

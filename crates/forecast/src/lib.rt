@@ -1,5 +1,7 @@
 // The forecast: a listing's years on a scratch book, without replanning or withdrawal. What the closings
 // of all cells, year after year, come to is worked out cell by cell.
+#![tactic(auto)]
+
 ghost use Rattle.std.specs.Prelude.{◌≡◌, [], ◌∷◌, ◌≤◌, length};
 ghost use Rattle.words.specs.Answers.{outcome};
 ghost use Rattle.words.specs.Blocks.{filled};

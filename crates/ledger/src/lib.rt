@@ -1,5 +1,7 @@
 // The ledger's six calls. None requires anything of its caller; each answers a number and a place where
 // it is refused, and then it has written nothing.
+#![tactic(auto)]
+
 ghost use Rattle.std.specs.Prelude.{◌≡◌, []};
 ghost use Rattle.words.specs.Answers.{outcome, amount};
 ghost use Rattle.listing.specs.Accepted.{Accepted};

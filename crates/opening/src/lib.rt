@@ -1,4 +1,6 @@
 // What an open writes: a head of year 0, and for each cell its plan year of the listing.
+#![tactic(auto)]
+
 ghost use Rattle.std.specs.Prelude.{◌≡◌};
 ghost use Rattle.words.specs.Blocks.{filled};
 ghost use Rattle.listing.specs.Layout.{head, cells};

@@ -6,9 +6,9 @@ use Prim.Native.Nat.{ℕ}
 use lib.ListN.{length}
 use Rattle.book.specs.Current.{current, admitted}
 use Rattle.book.proofs.Valid.{fitted_is}
-use Rattle.ledger.specs.Calls.{open_effect, Call}
+use Rattle.ledger.specs.Calls.{open_effect, call_effect, Call}
 use Rattle.ledger.proofs.After.{opened_holds, call_admits}
-use Rattle.order.specs.Order.{Order, ListingMoved, SameCalls, EveryOrder, EveryOrderFrom}
+use Rattle.order.specs.Order.{Order, ListingMoved, moved, SameCalls, EveryOrder, EveryOrderFrom}
 use Rattle.order.proofs.Books.{fitted_alike, open_moved}
 use Rattle.order.proofs.Calls.{written_moved, none_moved, Pair, statement_same, pair_next, same_call}
 use Rattle.order.proofs.EveryBook.{pair_alike}
@@ -18,7 +18,7 @@ use Rattle.order.proofs.EveryBook.{pair_alike}
 same_calls : {n : ℕ} (o : Order n) (l l' b b' : List ℕ) → Pair o l l' b b' → (admitted l b).done ≡ true → (calls : List Call) → SameCalls o l l' b b' calls
 unfolding SameCalls
 same_calls o l l' b b' v a [] = tt
-same_calls o l l' b b' v a (c ∷ calls) = λ y long. (same_call v a c y long, same_calls o l l' _ _ (pair_next v a c y long) (call_admits l b c a) calls)
+same_calls o l l' b b' v a (c ∷ calls) = λ y long. (same_call v a c y long, same_calls o l l' (call_effect l b c).book (call_effect l' b' (moved o y c)).book (pair_next v a c y long) (call_admits l b c a) calls)
 
 pub every_order_from : EveryOrderFrom
 every_order_from n o l b l' b' p admits calls = same_calls o l l' b b' (pair_alike p) admits calls

@@ -12,7 +12,7 @@ use Rattle.words.specs.Blocks.{filled}
 use Rattle.words.proofs.Signed.{by-test}
 use Rattle.words.proofs.Blocks.{length_filled, filled_before, filled_word, filled_behind}
 use Rattle.fields.specs.Fields.{head_of}
-use Rattle.listing.specs.Layout.{cells, cell_words, offsets, cell_at}
+use Rattle.listing.specs.Layout.{cell_words, offsets, cell_at}
 use Rattle.listing.proofs.Accepted.{accepted}
 use Rattle.book.specs.Layout.{line_words, payload, line_at}
 use Rattle.order.specs.Order.{SameTotals, EveryListing, origin, Exchanges}

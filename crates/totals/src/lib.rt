@@ -1,4 +1,6 @@
 // What the lines of a closing come to over all cells.
+#![tactic(auto)]
+
 ghost use Rattle.std.specs.Prelude.{◌≡◌, ◌^◌, ◌<◌, ◌≤◌, length};
 ghost use Rattle.book.specs.Layout.{line_words};
 ghost use Rattle.totals.specs.Totals.{line_total};

@@ -9,7 +9,7 @@ use Rattle.words.proofs.Blocks.{filled_same}
 use Rattle.listing.specs.Layout.{cells, horizon}
 use Rattle.year.specs.Year.{after_loss}
 use Rattle.year.specs.declared.Entry.{Entry}
-use Rattle.book.specs.Current.{current, entry, held_at, new_book, fitted, Holds}
+use Rattle.book.specs.Current.{current, held_at, new_book, fitted, Holds}
 use Rattle.book.specs.Layout.{with_year, held_words}
 use Rattle.book.proofs.AcceptedBook.{shaped, fitted_accepted}
 use Rattle.book.proofs.New.{new_again, new_holds}
