@@ -24,7 +24,7 @@ use Rattle.listing.specs.Check.{checked}
 use Rattle.listing.proofs.Accepted.{accepted as accepted-listing}
 use Rattle.listing.proofs.Numbers.{checked_either}
 use Rattle.year.specs.Year.{remaining}
-use Rattle.book.specs.Current.{current, book_size, entry, fitted, admitted}
+use Rattle.book.specs.Current.{current, book_size, entry, admitted}
 use Rattle.book.specs.Layout.{line_words}
 use Rattle.book.specs.Check.{capacity_checked}
 use Rattle.book.specs.Check as check
