@@ -107,7 +107,7 @@ module _ (s : Shape) (l b : List ℕ) (g : Shaped s) where
         fitted = fits;
         year = omega (arith, year_bound (horizon l) (get_or b year_at 0) (r.head_words.each year_at (omega arith)));
         issued = joined_below b issued_at (issued_words s);
-        entry_valid_lem = holds r;
+        entry_valid = holds r;
         words_valid = λ i lt. record { sized = words_valid s b i (fitted_cell s l b fits i lt); fit = entry_fit l i _ fits.accepted lt (holds r i lt) };
       }
 

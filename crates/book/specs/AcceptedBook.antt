@@ -58,5 +58,5 @@ pub record AcceptedBook (s : Shape) (l b : List ℕ) : Type 0 where
   pub fitted : Fitted s l b
   pub year : year b ≤ horizon l
   pub issued : issued s b < 2 ^ (28 * issued_words s)
-  pub entry_valid_lem : (i : ℕ) → i < cells l → EntryValid (head l) (cell l i) (entry s b i)
+  pub entry_valid : (i : ℕ) → i < cells l → EntryValid (head l) (cell l i) (entry s b i)
   pub words_valid : (i : ℕ) → i < cells l → CellWordsValid (head l) (cell l i) (words_of s b i)

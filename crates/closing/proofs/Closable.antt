@@ -39,8 +39,8 @@ module _ {l : List ℕ} {h : Head} {c : Cell} {e : Entry} {t : ℕ} (g : CellYea
 
   pub cell_year_valid : EntryValid (head l) c entry_then
   cell_year_valid =
-      let most = year_most (head l) (row l) c e t g.entry_valid_lem.most in
-      record { plan = g.entry_valid_lem.plan; most = most; lost = omega (arith, most_entered (head l) c) }
+      let most = year_most (head l) (row l) c e t g.entry_valid.most in
+      record { plan = g.entry_valid.plan; most = most; lost = omega (arith, most_entered (head l) c) }
 
   pub lost_then : entry_then.oxidised + entry_then.burned ≤ 20000
   lost_then = omega (arith, cell_year_valid.lost, g.cell_valid.entered)
@@ -49,7 +49,7 @@ module _ {l : List ℕ} {h : Head} {c : Cell} {e : Entry} {t : ℕ} (g : CellYea
   cell_year_storable = valid_storable g.accepted.head_valid g.cell_valid entry_then cell_year_valid
 
   pub cell_year_fit : WithinLimits h c e.oxidised e.burned
-  cell_year_fit = rw g.head_is (record { head_valid = g.accepted.head_valid; cell_valid = g.cell_valid; lost = g.entry_valid_lem.lost })
+  cell_year_fit = rw g.head_is (record { head_valid = g.accepted.head_valid; cell_valid = g.cell_valid; lost = g.entry_valid.lost })
 
   -- whatever row is read, its figures are in range
   pub losing_row : (r : Row) (stratum age : ℕ) → r ≡ row l stratum age → RowValid r
@@ -75,7 +75,7 @@ module _ {l : List ℕ} {h : Head} {c : Cell} {e : Entry} {t : ℕ} (g : CellYea
 
 -- the entry e that is read from a cell's own words can be written again
 pub step_kept : {l : List ℕ} {h : Head} {t : ℕ} (i : ℕ) (w : List ℕ) → CellYear l h (cell l i) (entry_of w) t → (e : Entry) → e ≡ entry_of w → Storable e
-step_kept i w g e e_is = rw e_is (valid_storable g.accepted.head_valid g.cell_valid (entry_of w) g.entry_valid_lem)
+step_kept i w g e e_is = rw e_is (valid_storable g.accepted.head_valid g.cell_valid (entry_of w) g.entry_valid)
 
 -- a cell's own words w, which the step was lent: c is the cell and e the entry that it read
 module _ {l : List ℕ} {h : Head} {t : ℕ} (i : ℕ) (w : List ℕ) (g : CellYear l h (cell l i) (entry_of w) t) (c : Cell) (c_is : c ≡ cell l i) (e : Entry) (e_is : e ≡ entry_of w) where
@@ -105,7 +105,7 @@ next_cell_year g i lt =
       accepted = accepted;
       head_is = g.head_is;
       cell_valid = accepted.cell_valid i lt;
-      entry_valid_lem = g.accepted_book.entry_valid_lem i lt;
+      entry_valid = g.accepted_book.entry_valid i lt;
       in_time = (omega arith, g.in_time);
     }
 

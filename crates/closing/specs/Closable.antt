@@ -16,7 +16,7 @@ pub record CellYear (l : List ℕ) (h : Head) (c : Cell) (e : Entry) (t : ℕ) :
   pub accepted : Accepted l
   pub head_is : h ≡ head l
   pub cell_valid : CellValid (strata l) (horizon l) c
-  pub entry_valid_lem : EntryValid (head l) c e
+  pub entry_valid : EntryValid (head l) c e
   pub in_time : (1 ≤ t) × (t ≤ horizon l)
 
 -- an accepted book, and t the year after its current one

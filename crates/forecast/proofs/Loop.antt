@@ -89,7 +89,7 @@ module _ {l : List ℕ} {h : Head} {i : ℕ} {d : List ℕ} (g : Running l h i d
           accepted = g.accepted;
           head_is = g.head_is;
           cell_valid = g.accepted.cell_valid i g.in_listing;
-          entry_valid_lem = after_valid g.accepted i g.in_listing t;
+          entry_valid = after_valid g.accepted i g.in_listing t;
           in_time = (omega arith, omega arith);
         })
 

@@ -46,7 +46,7 @@ claims l s state v =
           let stated = cell_admitted l state.book i v.admits p in
           record {
             stated = stated;
-            depth = rw stated (omega (arith, v.oxidised_is i p, v.burned_is i p, ((accepted_book current l state.book shaped v.admits).entry_valid_lem i p).lost));
+            depth = rw stated (omega (arith, v.oxidised_is i p, v.burned_is i p, ((accepted_book current l state.book shaped v.admits).entry_valid i p).lost));
             kilograms = v.kilograms i p;
             dry = v.dry i p;
           };

@@ -33,7 +33,7 @@ module _ (l b : List ℕ) (i : ℕ) where
         accepted_book = s;
         there = lt;
         capacity = accepted_book_cell current l b s i lt;
-        entry_valid_lem = s.entry_valid_lem i lt;
+        entry_valid = s.entry_valid i lt;
         words_valid = s.words_valid i lt;
       }
 

@@ -78,7 +78,7 @@ pub withdrawn_holds : (l b : List ℕ) (i : ℕ) → (withdraw_effect l b i).ans
 unfolding withdraw_effect
 withdrawn_holds l b i h =
     let p = unwithdrawn_accepted l b i h in
-    rw (written_new (admitted_unwithdrawn l b i) b (with_plan b i (marked (entry b i))) h) (changed_holds l b i marked (λ e. refl) p.admits p.entry_valid_lem.plan)
+    rw (written_new (admitted_unwithdrawn l b i) b (with_plan b i (marked (entry b i))) h) (changed_holds l b i marked (λ e. refl) p.admits p.entry_valid.plan)
 
 -- ---- issue
 

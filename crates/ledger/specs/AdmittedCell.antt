@@ -10,5 +10,5 @@ pub record AdmittedCell (l b : List ℕ) (i : ℕ) : Type 0 where
   pub accepted_book : AcceptedBook l b
   pub there : i < cells l
   pub capacity : CellInBook b i
-  pub entry_valid_lem : EntryValid (head l) (cell l i) (entry b i)
+  pub entry_valid : EntryValid (head l) (cell l i) (entry b i)
   pub words_valid : CellWordsValid (head l) (cell l i) (words_of b i)

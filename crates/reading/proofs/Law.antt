@@ -64,6 +64,6 @@ every_reading =
       denominator = λ x _. denominator_pos x;
       floor = λ x _.
           let a = pos 1000 *ℤ numerator x in
-          record { not_above_lem = record { le = lo (denominator x) (denominator_pos x) a }; next_above = record { lt = hi (denominator x) (denominator_pos x) a } };
-      only = λ x n _ f. only (denominator x) (denominator_pos x) (pos 1000 *ℤ numerator x) n f.not_above_lem.le f.next_above.lt;
+          record { not_above = record { le = lo (denominator x) (denominator_pos x) a }; next_above = record { lt = hi (denominator x) (denominator_pos x) a } };
+      only = λ x n _ f. only (denominator x) (denominator_pos x) (pos 1000 *ℤ numerator x) n f.not_above.le f.next_above.lt;
     }

@@ -52,7 +52,7 @@ mm x = shr_z (pos 1000 *ℤ numerator x) (denominator x)
 
 -- n ≤ 1,000 × x < n + 1, with the denominator multiplied out; `suc_ℤ n` is n + 1
 pub record Floor (x : Float) (n : ℤ) : Type 0 where
-  pub not_above_lem : (n *ℤ pos (denominator x)) ≤ℤ (pos 1000 *ℤ numerator x)
+  pub not_above : (n *ℤ pos (denominator x)) ≤ℤ (pos 1000 *ℤ numerator x)
   pub next_above : (pos 1000 *ℤ numerator x) <ℤ (suc_ℤ n *ℤ pos (denominator x))
 
 -- the mm of every finite number are such an n, and the only one; proofs/Law.antt proves it

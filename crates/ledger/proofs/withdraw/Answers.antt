@@ -26,7 +26,7 @@ returns-in-Done c =
 pub put_plan-requires : goal.put_plan-requires
 put_plan-requires c =
     let r = unwithdrawn (goal.at.put_plan-requires c).In-Done in
-    (r.capacity, rw c.marked.ensures (omega (arith, ap (λ (e : Entry). e.plan) c.entry-e.ensures, r.entry_valid_lem.plan, r.accepted_book.fitted.accepted.head_valid.horizon.1)))
+    (r.capacity, rw c.marked.ensures (omega (arith, ap (λ (e : Entry). e.plan) c.entry-e.ensures, r.entry_valid.plan, r.accepted_book.fitted.accepted.head_valid.horizon.1)))
 
 pub entry-e-requires : goal.entry-e-requires
 unfolding withdraw_effect
