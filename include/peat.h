@@ -1,9 +1,9 @@
 /*
  * The peat ledger for C and for every language that calls C.
  *
- * Building: `rt staticlib capi` writes target/staticlib/libcapi.a, then
- *     cc x.c -Iinclude -Ltarget/staticlib -lcapi
- * on Linux, x86-64. harness/tests/header.c is an example of every call.
+ * Building: `rt lib` in crates/capi writes crates/capi/out/libcapi.a, then
+ *     cc x.c -Iinclude -Lcrates/capi/out -lcapi
+ * on Linux, x86-64-v2 (`rt lib --cpu x86-64`: any x86-64). harness/tests/header.c is an example of every call.
  *
  * docs/RULES.md describes listing, book and lines bit by bit, and every rule. In short: a listing holds a project's
  * figures, a book its state; both are arrays of 32-bit words that the caller owns. The library keeps nothing between
