@@ -11,7 +11,7 @@ use borrow.Author.Tests.{ltb-true, ltb-false, eqb-true, eqb-false}
 use Rattle.words.specs.Bits.{word_of}
 use Rattle.words.specs.Blocks.{filled}
 use Rattle.words.proofs.Blocks.{filled_before, filled_block}
-use Rattle.words.proofs.Signed.{by-test}
+use Rattle.words.proofs.Signed.{by_test}
 use Rattle.fields.specs.declared.Head.{Head}
 use Rattle.fields.specs.declared.Cell.{Cell}
 use Rattle.year.specs.declared.Entry.{Entry}
@@ -105,7 +105,7 @@ module _ (w : List ℕ) (long : 3 ≤ length w) (f : Bool) (y : ℕ) where
       record {
         each =
             λ j lt.
-            by-test (λ (t : Bool). entry_word_valid h c (set w 0 (plan_word f y)) j ≡ true) (eqb j 0) true true
+            by_test (λ (t : Bool). entry_word_valid h c (set w 0 (plan_word f y)) j ≡ true) (eqb j 0) true true
             (λ e. rw (e, first) (plan_valid h.horizon f y p q))
             (λ e. entry_rest h c (set w 0 (plan_word f y)) w other j e ∙ r.each j lt);
       }
@@ -122,7 +122,7 @@ module _ (s : Shape) (g : Shaped s) (b : List ℕ) (i : ℕ) (w : ℕ) (j : ℕ)
   other_word : (i ≡ j → ⊥) → words_of s (set b (entry_at s i) w) j ≡ words_of s b j
   other_word n =
       let three = g.entry in
-      by-test (λ (t : Bool). words_of s (set b (entry_at s i) w) j ≡ words_of s b j) (ltb i j) true false
+      by_test (λ (t : Bool). words_of s (set b (entry_at s i) w) j ≡ words_of s b j) (ltb i j) true false
       (λ e. before_words s b (entry_at s i) w j (omega (arith, entry_before s i j (ltb-true i j e))))
       (λ e.
       let le = ltb-false i j e in
@@ -132,7 +132,7 @@ module _ (s : Shape) (g : Shaped s) (b : List ℕ) (i : ℕ) (w : ℕ) (j : ℕ)
   -- a store to the first word of cell i: the words of cell j
   pub words_put : words_of s (set b (entry_at s i) w) j ≡ cond (eqb i j) (set (words_of s b j) 0 w) (words_of s b j)
   words_put =
-      by-test (λ (x : List ℕ). words_of s (set b (entry_at s i) w) j ≡ x) (eqb i j) (set (words_of s b j) 0 w) (words_of s b j)
+      by_test (λ (x : List ℕ). words_of s (set b (entry_at s i) w) j ≡ x) (eqb i j) (set (words_of s b j) 0 w) (words_of s b j)
       (λ e. rw (eqb-true i j e) first_word)
       (λ e. other_word (eqb-false i j e))
 
@@ -151,7 +151,7 @@ module _ (s : Shape) (b : List ℕ) (i : ℕ) (new : Entry) (j : ℕ) (capacity 
       All (entry_word_valid h c (words_of s (with_plan s b i new) j)) n
   valid_put n h c p q r =
       rw (words_put s capacity.shaped b i word j)
-      (by-test (λ (w : List ℕ). All (entry_word_valid h c w) n) (eqb i j) (set (words_of s b j) 0 word) (words_of s b j)
+      (by_test (λ (w : List ℕ). All (entry_word_valid h c w) n) (eqb i j) (set (words_of s b j) 0 word) (words_of s b j)
       (λ e. valid_first (words_of s b j) (words_long s b j capacity) new.withdrawn new.plan n h c p q r)
       (λ e. r))
 

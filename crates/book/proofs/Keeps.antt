@@ -12,7 +12,7 @@ use Rattle.words.specs.Bits.{word_of}
 use Rattle.words.specs.Blocks.{filled}
 use Rattle.words.proofs.Answers.{after_accepted}
 use Rattle.words.proofs.Blocks.{length_filled}
-use Rattle.words.proofs.Signed.{by-test}
+use Rattle.words.proofs.Signed.{by_test}
 use Rattle.listing.specs.Layout.{head, cells, horizon, cell}
 use Rattle.year.specs.declared.Entry.{Entry}
 use Rattle.book.specs.Layout.{year_kind, issued_kind, Shaped, entry_at, book_size, year_at, issued_at, issued_words, stored, with_year, with_issued, plan_word, with_plan}
@@ -55,7 +55,7 @@ module _ (s : Shape) (g : Shaped s) (l b : List ℕ) (a : (admitted s l b).done 
             record {
               each =
                   λ m lt.
-                  by-test (λ (t : Bool). is_head_word (horizon l) m (get_or (set b k w) m 0) ≡ true) (eqb m k) true true
+                  by_test (λ (t : Bool). is_head_word (horizon l) m (get_or (set b k w) m 0) ≡ true) (eqb m k) true true
                   (λ e. rw (eqb-true m k e, get_or-set_same b k w 0 (omega (arith, admitted_capacity))) valid)
                   (λ e. rw (get_or-set_other b k m w 0 (eqb-false m k e)) (r.head_words.each m lt));
             };

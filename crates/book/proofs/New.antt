@@ -11,7 +11,7 @@ use borrow.Author.Tests.{eqb-true, eqb-false}
 use Rattle.words.specs.Bits.{word_of}
 use Rattle.words.specs.Blocks.{filled}
 use Rattle.words.proofs.Blocks.{filled_again}
-use Rattle.words.proofs.Signed.{by-test}
+use Rattle.words.proofs.Signed.{by_test}
 use Rattle.listing.specs.Layout.{head, cells, horizon, cell}
 use Rattle.listing.specs.Accepted.{Accepted}
 use Rattle.year.specs.declared.Entry.{Entry}
@@ -96,7 +96,7 @@ module _ (s : Shape) (g : Shaped s) (l b : List ℕ) (fits : (fitted s l b).done
         record {
           each =
               λ k lt.
-              by-test (λ (x : Bool). is_head_word (horizon l) k (get_or front k 0) ≡ true) (eqb k year_at) true true
+              by_test (λ (x : Bool). is_head_word (horizon l) k (get_or front k 0) ≡ true) (eqb k year_at) true true
               (λ q. rw (eqb-true k year_at q, stored_outside issued_kind issued_at (issued_words s) n year_at dated (λ le. absurd (omega arith))) dated_valid)
               (λ q.
               let other = eqb-false k year_at q in

@@ -10,7 +10,7 @@ use borrow.Author.Tests.{ltb-true, ltb-false, lt-ltb, le-ltb}
 use Rattle.words.specs.Answers.{Answer, accepted}
 use Rattle.words.specs.Refusals.{book_short, book_word}
 use Rattle.words.proofs.Answers.{need_accepted, need_all_accepted, after_accepted, need_is, need_all_is, after_is}
-use Rattle.words.proofs.Signed.{by-test}
+use Rattle.words.proofs.Signed.{by_test}
 use Rattle.fields.specs.declared.Head.{Head}
 use Rattle.fields.specs.declared.Cell.{Cell}
 use Rattle.year.specs.Year.{most_loss}
@@ -30,7 +30,7 @@ entry_all n h c w p o q =
     record {
       each =
           λ j lt.
-          by-test (λ (x : Bool). x ≡ true) (eqb j 0) _ _ (λ e. p) (λ e. by-test (λ (x : Bool). x ≡ true) (eqb j 1) _ _ (λ e. o) (λ e. q));
+          by_test (λ (x : Bool). x ≡ true) (eqb j 0) _ _ (λ e. p) (λ e. by_test (λ (x : Bool). x ≡ true) (eqb j 1) _ _ (λ e. o) (λ e. q));
     }
 
 -- the first word apart: the tests of the others read no other word than theirs
@@ -63,7 +63,7 @@ module _ (s : Shape) (l b : List ℕ) where
   pub placed : Shaped s → WordsValid s l b → (k : ℕ) → k < book_size s (cells l) → book_word_valid s l b k ≡ true
   unfolding book_word_valid
   placed g r k lt =
-      by-test (λ (t : Bool). t ≡ true) (ltb k s.head) _ _
+      by_test (λ (t : Bool). t ≡ true) (ltb k s.head) _ _
       (λ e. r.head_words.each k (ltb-true k s.head e))
       (λ e.
       let le = ltb-false k s.head e in

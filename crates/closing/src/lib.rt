@@ -103,7 +103,7 @@ pub fn may_close(listing: &[u32], book: &[u32], capacity: usize) -> Outcome
 fn close_cell(entry: &mut [u32], listing: &[u32], h: Head, i: usize, year: u32) -> Loss
     requires { CellWordsValid h (cell listing.now i) entry.old × (i < cells listing.now) × CellYear listing.now h (cell listing.now i) (entry_of entry.old) year }
     ensures value { result ≡ cell_loss listing.now year i (entry_of entry.old) }
-    ensures after { entry.new ≡ held_words (length entry.old) (after_loss (entry_of entry.old) (cell_loss listing.now year i (entry_of entry.old))) }
+    ensures new_entry { entry.new ≡ held_words (length entry.old) (after_loss (entry_of entry.old) (cell_loss listing.now year i (entry_of entry.old))) }
 {
     let e = book::entry_of(&entry[..]);
     let c = listing::cell(listing, h, i);

@@ -29,7 +29,7 @@ fn word_at(bytes: &[u8], at: usize) -> u32
 pub fn decode(bytes: &[u8], words: &mut [u32]) -> usize
     requires { length bytes.now / 4 ≤ length words.old }
     ensures value { result ≡ length bytes.now / 4 }
-    ensures words_after { words.new ≡ decoded bytes.now words.old }
+    ensures new_words { words.new ≡ decoded bytes.now words.old }
 {
     let count = bytes.len() / 4;
     let mut i: usize = 0;

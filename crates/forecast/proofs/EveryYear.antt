@@ -13,7 +13,7 @@ use Rattle.words.proofs.Answers.{need_accepted, after_accepted}
 use Rattle.words.specs.Effect.{written}
 use Rattle.words.proofs.Blocks.{filled_word, filled_behind}
 use Rattle.words.proofs.Effect.{written_new}
-use Rattle.words.proofs.Signed.{by-test}
+use Rattle.words.proofs.Signed.{by_test}
 use Rattle.words.proofs.Sums.{sum_same}
 use Rattle.listing.specs.Layout.{cells, horizon}
 use Rattle.book.specs.Current.{current, fitted}
@@ -89,7 +89,7 @@ every_year l b x h =
 pub output_beyond : (l b x : List ℕ) (k : ℕ) → horizon l ≤ k → get_or (forecast_effect l b x).output k 0 ≡ get_or x k 0
 unfolding forecast_effect output_after written
 output_beyond l b x k le =
-    by-test (λ (y : List ℕ). get_or y k 0 ≡ get_or x k 0) (forecast_answer l b (length x)).done _ x
+    by_test (λ (y : List ℕ). get_or y k 0 ≡ get_or x k 0) (forecast_answer l b (length x)).done _ x
     (λ done. filled_behind 1 x 0 _ (λ t. refl) zero-le (horizon l) k (omega arith))
     (λ refused. refl)
 

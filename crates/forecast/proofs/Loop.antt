@@ -11,7 +11,7 @@ use Rattle.words.specs.Blocks.{filled}
 use Rattle.words.specs.Sums.{sum_below}
 use Rattle.words.proofs.Blocks.{Filling, filling_none, filling_lent_length, filling_next, filling_stored, filling_all, filled_behind, filled_word, length_filled}
 use Rattle.words.proofs.Blocks.{filled_same, filled_again, filled_own}
-use Rattle.words.proofs.Signed.{by-test}
+use Rattle.words.proofs.Signed.{by_test}
 use Rattle.words.proofs.Sums.{sum_none, sum_next, sum_most}
 use Rattle.fields.specs.declared.Head.{Head}
 use Rattle.fields.specs.declared.Cell.{Cell}
@@ -52,7 +52,7 @@ pub record Ran (l : List ℕ) (i : ℕ) (d : List ℕ) (t : ℕ) (e : Entry) (k 
 
 years_before_most : (plan horizon : ℕ) → plan ≤ horizon → years_before_conversion plan horizon ≤ horizon
 unfolding years_before_conversion
-years_before_most plan horizon le = by-test (λ (n : ℕ). n ≤ horizon) (eqb plan 0) horizon (plan - 1) (λ e. omega arith) (λ e. omega arith)
+years_before_most plan horizon le = by_test (λ (n : ℕ). n ≤ horizon) (eqb plan 0) horizon (plan - 1) (λ e. omega arith) (λ e. omega arith)
 
 -- h is the head that was read, and c the cell
 module _ {l : List ℕ} {h : Head} {i : ℕ} {d : List ℕ} (g : Running l h i d) {c : Cell} (c_is : c ≡ cell l i) where

@@ -8,7 +8,7 @@ use native.Mathlib.Omega.{arith}
 use lib.Dec.{eqb}
 use borrow.Author.Tests.{eqb-true}
 use Rattle.words.proofs.Blocks.{filled_same}
-use Rattle.words.proofs.Signed.{by-test}
+use Rattle.words.proofs.Signed.{by_test}
 use Rattle.words.proofs.Sums.{sum_same}
 use Rattle.listing.specs.Layout.{cells, horizon, cell}
 use Rattle.year.specs.Year.{unconverted, no_loss}
@@ -31,7 +31,7 @@ module _ (l : List ℕ) (i : ℕ) where
   inactive : (t : ℕ) → t < years_before_conversion plan (horizon l) → unconverted plan (t + 1) ≡ true
   unfolding years_before_conversion
   inactive t =
-      by-test (λ (n : ℕ). t < n → unconverted plan (t + 1) ≡ true) (eqb plan 0) (horizon l) (plan - 1)
+      by_test (λ (n : ℕ). t < n → unconverted plan (t + 1) ≡ true) (eqb plan 0) (horizon l) (plan - 1)
       (λ q lt. unconverted_never plan (t + 1) (eqb-true plan 0 q))
       (λ q lt. unconverted_before plan (t + 1) (omega arith))
 

@@ -7,7 +7,7 @@ use native.Mathlib.Omega.{arith}
 use native.Mathlib.Numerals.{add-one}
 use lib.Dec.{eqb}
 use Rattle.words.specs.Bits.{at_least_0}
-use Rattle.words.proofs.Signed.{by-test}
+use Rattle.words.proofs.Signed.{by_test}
 use Rattle.listing.specs.Layout.{head, cells, row, cell}
 use Rattle.year.specs.declared.Entry.{Entry}
 use Rattle.year.specs.Year.{emission}
@@ -85,7 +85,7 @@ module _ (l : List ℕ) (s : BroughtForward) (b : List ℕ) (h : History) (v : I
   module _ (b' : List ℕ) (i : ℕ) (change : Entry → Entry) (holds : Holds l b' (year b) (issued b) (λ j. cond (eqb i j) (change (entry b j)) (entry b j))) where
     same_field : (f : Entry → ℕ) → ((e : Entry) → f (change e) ≡ f e) → (j : ℕ) → j < cells l → f (entry b' j) ≡ f (entry b j)
     same_field f keeps j p =
-        ap f (holds.entry_is j p) ∙ by-test (λ (e : Entry). f e ≡ f (entry b j)) (eqb i j) (change (entry b j)) (entry b j) (λ here. keeps (entry b j)) (λ other. refl)
+        ap f (holds.entry_is j p) ∙ by_test (λ (e : Entry). f e ≡ f (entry b j)) (eqb i j) (change (entry b j)) (entry b j) (λ here. keeps (entry b j)) (λ other. refl)
 
   kept_replan : (i y : ℕ) → (replan_effect l b i y).answer.done ≡ true → Inv l s (replan_effect l b i y).book (Replanned i y ∷ h)
   unfolding year_in plan_in sum_of issued_in highest EachClosing
@@ -144,7 +144,7 @@ module _ (l : List ℕ) (s : BroughtForward) (b : List ℕ) (h : History) (v : I
   -- ---- every call: what an accepted one gives is kept, and a refused one gives nothing
   pub kept_step : (c : Call) → Inv l s (step l b c).book ((step l b c).event ∷ h)
   kept_step c =
-      by-test (λ (e : Event). Inv l s (call_effect l b c).book (e ∷ h)) (call_effect l b c).answer.done (event_of c (call_effect l b c)) Nothing (kept c)
+      by_test (λ (e : Event). Inv l s (call_effect l b c).book (e ∷ h)) (call_effect l b c).answer.done (event_of c (call_effect l b c)) Nothing (kept c)
       (λ refused. kept_nothing _ (call_refused l b c refused))
     where
       kept : (c : Call) → (call_effect l b c).answer.done ≡ true → Inv l s (call_effect l b c).book (event_of c (call_effect l b c) ∷ h)

@@ -9,7 +9,7 @@ use borrow.Author.Tests.{eqb-true}
 use Rattle.words.specs.Answers.{Answer}
 use Rattle.words.proofs.Answers.{after_accepted, after_is}
 use Rattle.words.proofs.Effect.{written_new, written_old}
-use Rattle.words.proofs.Signed.{by-test}
+use Rattle.words.proofs.Signed.{by_test}
 use Rattle.listing.specs.Layout.{cells, horizon}
 use Rattle.year.specs.Year.{planned, marked}
 use Rattle.year.specs.declared.Entry.{Entry}
@@ -115,7 +115,7 @@ call_admitted l b Issue h = (after_accepted _ _ h).0
 -- each leaves an accepted book
 pub call_admits : (l b : List ℕ) (c : Call) → (admitted l b).done ≡ true → (admitted l (call_effect l b c).book).done ≡ true
 call_admits l b c a =
-    by-test (λ (t : Bool). (admitted l (call_effect l b c).book).done ≡ true) (call_effect l b c).answer.done true false
+    by_test (λ (t : Bool). (admitted l (call_effect l b c).book).done ≡ true) (call_effect l b c).answer.done true false
     (accepted_admits l b c)
     (λ e. rw (call_refused l b c e) a)
   where

@@ -12,7 +12,7 @@ use Rattle.words.specs.Blocks.{filled}
 use Rattle.words.specs.Effect.{written}
 use Rattle.words.proofs.Blocks.{length_filled, filled_behind}
 use Rattle.words.proofs.Effect.{written_new, written_old}
-use Rattle.words.proofs.Signed.{by-test}
+use Rattle.words.proofs.Signed.{by_test}
 use Rattle.listing.specs.Layout.{cells}
 use Rattle.year.specs.Year.{planned, marked}
 use Rattle.year.specs.declared.Entry.{Entry}
@@ -40,7 +40,7 @@ same n x = record { length_is = refl; words_are = λ k le. refl }
 -- by the answer: what was written, or nothing
 pub committed : (n : ℕ) (a : Answer) (old new : List ℕ) → (a.done ≡ true → UntouchedFrom n old new) → UntouchedFrom n old (written a old new)
 committed n a old new kept =
-    by-test (λ (t : Bool). UntouchedFrom n old (written a old new)) a.done true false (λ e. rw (written_new a old new e) (kept e)) (λ e. rw (written_old a old new e) (same n old))
+    by_test (λ (t : Bool). UntouchedFrom n old (written a old new)) a.done true false (λ e. rw (written_new a old new e) (kept e)) (λ e. rw (written_old a old new e) (same n old))
 
 -- a number stored before place n, and blocks
 stored_beyond : (n : ℕ) (x : List ℕ) (kind from m v : ℕ) → from + m ≤ n → UntouchedFrom n x (stored kind x from m v)

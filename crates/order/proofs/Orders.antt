@@ -9,7 +9,7 @@ use lib.Dec.{eqb}
 use lib.ListN.{length, get_or}
 use borrow.Author.Tests.{eqb-true, eqb-false}
 use Rattle.words.specs.Blocks.{filled}
-use Rattle.words.proofs.Signed.{by-test}
+use Rattle.words.proofs.Signed.{by_test}
 use Rattle.words.proofs.Blocks.{length_filled, filled_before, filled_word, filled_behind}
 use Rattle.fields.specs.Fields.{head_of}
 use Rattle.listing.specs.Layout.{cell_words, offsets, cell_at}
@@ -67,8 +67,8 @@ module _ (i j : ℕ) where
   origin_is : (P : ℕ → Type 0) (m : ℕ) → (m ≡ i → P j) → (m ≡ j → P i) → ((m ≡ i → ⊥) → (m ≡ j → ⊥) → P m) → P (origin i j m)
   unfolding origin
   origin_is P m first second other =
-      by-test P (eqb m i) j _ (λ e. first (eqb-true m i e))
-      (λ e. by-test P (eqb m j) i m (λ f. second (eqb-true m j f)) (λ f. other (eqb-false m i e) (eqb-false m j f)))
+      by_test P (eqb m i) j _ (λ e. first (eqb-true m i e))
+      (λ e. by_test P (eqb m j) i m (λ f. second (eqb-true m j f)) (λ f. other (eqb-false m i e) (eqb-false m j f)))
 
   -- beyond n cells it is itself
   origin_beyond : (n m : ℕ) → i < n → j < n → n ≤ m → origin i j m ≡ m

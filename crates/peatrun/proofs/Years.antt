@@ -17,7 +17,7 @@ use Rattle.words.specs.declared.Outcome.TheVariants.{Done, Refused}
 use Rattle.words.specs.declared.Amount.{Amount}
 use Rattle.words.specs.declared.Amount.TheVariants as amounts
 use Rattle.words.proofs.Answers.{need_is, after_is}
-use Rattle.words.proofs.Signed.{by-test}
+use Rattle.words.proofs.Signed.{by_test}
 use Rattle.fields.specs.Words.{most_cells}
 use Rattle.listing.specs.Layout.{least_words, cells, horizon, cell}
 use Rattle.listing.specs.Check.{checked}
@@ -57,7 +57,7 @@ module _ (l b : List ℕ) (long_enough : book_size most_cells ≤ length b) wher
   pub opened_listed : ByListing (open_effect l b).answer
   unfolding open_effect check.fitted after
   opened_listed =
-      by-test ByListing (checked l).done (capacity_checked current l b) (checked l) capacity_listed
+      by_test ByListing (checked l).done (capacity_checked current l b) (checked l) capacity_listed
       (λ _. checked_either ByListing (λ n k low high h. record { refused = h; least = low; most = high }) (λ h. absurd (false≢true (sym h))) l)
 
   pub opened_refused : (book' : List ℕ) (v : Outcome) → effect (outcome v) book' [] ≡ open_effect l b → (r : Refusal) → v ≡ Refused r → RefusedByListing (outcome v)

@@ -110,7 +110,7 @@ fn run_year(listing: &[u32], book: &mut [u32], lines: &mut [u32]) -> u32
 fn run_years(rt: &impl Print, listing: &[u32], book: &mut [u32], lines: &mut [u32]) -> bool
     requires { InYear listing.now book.old 0 × (length lines.old ≡ line_words * cells listing.now) }
     ensures new_book { (admitted listing.now book.new).done ≡ true }
-    ensures book_value { result ≡ true → book.new ≡ (ran_for listing.now (record { book = book.old; lines = lines.old }) (horizon listing.now)).book }
+    ensures every_year { result ≡ true → book.new ≡ (ran_for listing.now (record { book = book.old; lines = lines.old }) (horizon listing.now)).book }
 {
     let horizon = listing::head(listing).horizon;
     let mut year: u32 = 0;

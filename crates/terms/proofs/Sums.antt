@@ -14,7 +14,7 @@ use mir.Val.{SFits, to_z, of_z}
 use borrow.Author.Tests.{le-leb, lt-leb}
 use Rattle.words.specs.Bits.{bits, at_least_0}
 use Rattle.words.proofs.Fields.{field_below}
-use Rattle.words.proofs.Signed.{by-test, size_add, size_part, at_least_0_add, cast_fits, cast_reads, add_fits, add_reads, Halved, signed_size, signed_most}
+use Rattle.words.proofs.Signed.{by_test, size_add, size_part, at_least_0_add, cast_fits, cast_reads, add_fits, add_reads, Halved, signed_size, signed_most}
 use Rattle.fields.specs.Fields.{year_of, term_of, tonnes_of, yearly_term_of}
 use Rattle.fields.specs.Words.{most_term, most_term_tonnes, most_term_tonnes_below}
 use Rattle.fields.specs.declared.YearlyTerm.{YearlyTerm}
@@ -36,7 +36,7 @@ tonnes_size w = signed_size (halved w)
 -- a word adds its tonnes or nothing
 counted_is : (P : ℤ → Type 0) (year last w : ℕ) → P (tonnes_of w) → P (pos 0) → P (counted year last w)
 unfolding counted
-counted_is P year last w p q = by-test P (leb (year_of w) year && leb (term_of w) last) (tonnes_of w) (pos 0) (λ e. p) (λ e. q)
+counted_is P year last w p q = by_test P (leb (year_of w) year && leb (term_of w) last) (tonnes_of w) (pos 0) (λ e. p) (λ e. q)
 
 counted_size : (year last w : ℕ) → nat_abs (counted year last w) ≤ most_term_tonnes_below
 counted_size year last w = counted_is (λ z. nat_abs z ≤ most_term_tonnes_below) year last w (tonnes_size w) (omega arith)
@@ -47,7 +47,7 @@ counted_most year last w = counted_is (λ z. at_least_0 z ≤ most_term_tonnes) 
 
 pub up_to_size : (last w : ℕ) → nat_abs (up_to last w) ≤ most_term_tonnes_below
 unfolding up_to
-up_to_size last w = by-test (λ z. nat_abs z ≤ most_term_tonnes_below) (leb (term_of w) last) (tonnes_of w) (pos 0) (λ e. tonnes_size w) (λ e. omega arith)
+up_to_size last w = by_test (λ z. nat_abs z ≤ most_term_tonnes_below) (leb (term_of w) last) (tonnes_of w) (pos 0) (λ e. tonnes_size w) (λ e. omega arith)
 
 -- a word of a year to date counts by its term alone, and one of a later year does not
 counted_to_date : (year last w : ℕ) → year_of w ≤ year → counted year last w ≡ up_to last w

@@ -13,7 +13,7 @@ use Rattle.words.specs.declared.Refusal.{Refusal}
 use Rattle.words.specs.declared.Outcome.{Outcome}
 use Rattle.words.specs.declared.Outcome.TheVariants.{Done, Refused}
 use Rattle.words.proofs.Meaning.{valid_before, first_only, none_either}
-use Rattle.words.proofs.Signed.{by-test}
+use Rattle.words.proofs.Signed.{by_test}
 
 -- ---- forwards: v is what a function returns, as an answer
 
@@ -84,7 +84,7 @@ module _ (next : Answer) where
   pub after_accepted : (before : Answer) → (after before next).done ≡ true → (before.done ≡ true) × (next.done ≡ true)
   unfolding after
   after_accepted before h =
-      by-test (λ (a : Answer). a.done ≡ true → (before.done ≡ true) × (next.done ≡ true)) before.done next before (λ e h. (e, h)) (λ e h. absurd (false≢true (sym e ∙ h))) h
+      by_test (λ (a : Answer). a.done ≡ true → (before.done ≡ true) × (next.done ≡ true)) before.done next before (λ e h. (e, h)) (λ e h. absurd (false≢true (sym e ∙ h))) h
 
   pub after_is : (before : Answer) → before.done ≡ true → next ≡ after before next
   unfolding after
@@ -124,15 +124,15 @@ within_most least most x h = leb-true x most (and_right (leb least x) _ h)
 module _ (P : Answer → Type 0) where
   pub need_either : (ok : Bool) (n k : ℕ) (next : Answer) → P (refused n k) → P next → P (need ok n k next)
   unfolding need
-  need_either ok n k next r h = by-test P ok next (refused n k) (λ _. h) (λ _. r)
+  need_either ok n k next r h = by_test P ok next (refused n k) (λ _. h) (λ _. r)
 
   pub need_none_either : (n place end : ℕ) (next : Answer) → P (refused n place) → P next → P (need_none n place end next)
   unfolding need_none
-  need_none_either n place end next r h = by-test P (ltb place end) (refused n place) next (λ _. r) (λ _. h)
+  need_none_either n place end next r h = by_test P (ltb place end) (refused n place) next (λ _. r) (λ _. h)
 
   pub after_either : (before next : Answer) → P before → P next → P (after before next)
   unfolding after
-  after_either before next b h = by-test P before.done next before (λ _. h) (λ _. b)
+  after_either before next b h = by_test P before.done next before (λ _. h) (λ _. b)
 
 -- ---- two chains of tests that agree: what their endings have in common, their answers have
 

@@ -17,20 +17,20 @@ use borrow.Author.Tests.{ltb-true, ltb-false, lt-ltb, le-ltb, eqb-true, eqb-fals
 use Rattle.words.specs.Bits.{twos_complement, at_least_0}
 
 -- by the two cases of a test, each with its equation
-pub by-test {ℓ κ} : {A : Type ℓ} (P : A → Type κ) (c : Bool) (x y : A) → (c ≡ true → P x) → (c ≡ false → P y) → P (cond c x y)
-by-test P true x y f g = f refl
-by-test P false x y f g = g refl
+pub by_test {ℓ κ} : {A : Type ℓ} (P : A → Type κ) (c : Bool) (x y : A) → (c ≡ true → P x) → (c ≡ false → P y) → P (cond c x y)
+by_test P true x y f g = f refl
+by_test P false x y f g = g refl
 
 pub by_less : {C : Type 0} (a b : ℕ) → (a < b → C) → (b ≤ a → C) → C
-by_less {C} a b less more = by-test (λ (s : Bool). C) (ltb a b) true false (λ e. less (ltb-true a b e)) (λ e. more (ltb-false a b e))
+by_less {C} a b less more = by_test (λ (s : Bool). C) (ltb a b) true false (λ e. less (ltb-true a b e)) (λ e. more (ltb-false a b e))
 
 pub by_equal : {C : Type 0} (a b : ℕ) → (a ≡ b → C) → ((a ≡ b → ⊥) → C) → C
-by_equal {C} a b same other = by-test (λ (s : Bool). C) (eqb a b) true false (λ e. same (eqb-true a b e)) (λ e. other (eqb-false a b e))
+by_equal {C} a b same other = by_test (λ (s : Bool). C) (eqb a b) true false (λ e. same (eqb-true a b e)) (λ e. other (eqb-false a b e))
 
 -- ---- bounds: nat_abs
 size_sub : (a b : ℕ) → nat_abs (sub_ℕ a b) ≡ (a - b) + (b - a)
 size_sub a b =
-    by-test (λ z. nat_abs z ≡ (a - b) + (b - a)) (ltb a b) (negsuc (b - suc a)) (pos (a - b)) (λ e. omega (arith, ltb-true a b e)) (λ e. omega (arith, ltb-false a b e))
+    by_test (λ z. nat_abs z ≡ (a - b) + (b - a)) (ltb a b) (negsuc (b - suc a)) (pos (a - b)) (λ e. omega (arith, ltb-true a b e)) (λ e. omega (arith, ltb-false a b e))
 
 -- of the difference of two natural numbers
 pub size_diff : (a b : ℕ) → nat_abs (pos a -ℤ pos b) ≡ (a - b) + (b - a)
@@ -94,7 +94,7 @@ at_least_0_size (negsuc n) = omega arith
 
 at_least_0_sub : (a b : ℕ) → at_least_0 (sub_ℕ a b) ≡ a - b
 unfolding at_least_0
-at_least_0_sub a b = by-test (λ z. at_least_0 z ≡ a - b) (ltb a b) (negsuc (b - suc a)) (pos (a - b)) (λ e. omega (arith, ltb-true a b e)) (λ e. refl)
+at_least_0_sub a b = by_test (λ z. at_least_0 z ≡ a - b) (ltb a b) (negsuc (b - suc a)) (pos (a - b)) (λ e. omega (arith, ltb-true a b e)) (λ e. refl)
 
 pub at_least_0_less : (z : ℤ) (s : ℕ) → at_least_0 (z -ℤ pos s) ≡ at_least_0 z - s
 unfolding at_least_0
@@ -137,15 +137,15 @@ unsigned_fits w a p h = rw p (tt, record { fits = h })
 -- ---- differences of natural numbers: an equation of them is one for `omega`
 diff_sub : (a b : ℕ) → pos a -ℤ pos b ≡ sub_ℕ a b
 diff_sub a zero =
-    by-test (λ z. pos (a + 0) ≡ z) (ltb a 0) (negsuc (0 - suc a)) (pos (a - 0)) (λ e. absurd (omega (arith, ltb-true a 0 e))) (λ e. ap pos (omega arith))
+    by_test (λ z. pos (a + 0) ≡ z) (ltb a 0) (negsuc (0 - suc a)) (pos (a - 0)) (λ e. absurd (omega (arith, ltb-true a 0 e))) (λ e. ap pos (omega arith))
 diff_sub a (suc b) = refl
 
 pub sub_same : (a b c d : ℕ) → a + d ≡ c + b → sub_ℕ a b ≡ sub_ℕ c d
 sub_same a b c d h =
-    by-test (λ z. z ≡ sub_ℕ c d) (ltb a b) (negsuc (b - suc a)) (pos (a - b))
-    (λ e. by-test (λ z. negsuc (b - suc a) ≡ z) (ltb c d) (negsuc (d - suc c)) (pos (c - d)) (λ f. ap negsuc (omega (arith, ltb-true a b e, ltb-true c d f)))
+    by_test (λ z. z ≡ sub_ℕ c d) (ltb a b) (negsuc (b - suc a)) (pos (a - b))
+    (λ e. by_test (λ z. negsuc (b - suc a) ≡ z) (ltb c d) (negsuc (d - suc c)) (pos (c - d)) (λ f. ap negsuc (omega (arith, ltb-true a b e, ltb-true c d f)))
     (λ f. absurd (omega (arith, ltb-true a b e, ltb-false c d f))))
-    (λ e. by-test (λ z. pos (a - b) ≡ z) (ltb c d) (negsuc (d - suc c)) (pos (c - d)) (λ f. absurd (omega (arith, ltb-false a b e, ltb-true c d f)))
+    (λ e. by_test (λ z. pos (a - b) ≡ z) (ltb c d) (negsuc (d - suc c)) (pos (c - d)) (λ f. absurd (omega (arith, ltb-false a b e, ltb-true c d f)))
     (λ f. ap pos (omega (arith, ltb-false a b e, ltb-false c d f))))
 
 pub diff_same : (a b c d : ℕ) → a + d ≡ c + b → pos a -ℤ pos b ≡ pos c -ℤ pos d
@@ -215,14 +215,14 @@ module _ {width x h : ℕ} (s : Halved width x h) where
   pub signed_size : nat_abs (twos_complement width x) ≤ h
   unfolding twos_complement
   signed_size =
-      by-test (λ z. nat_abs z ≤ h) (ltb x (2 ^ (width - 1))) (pos x) (pos x -ℤ pos (2 ^ width))
+      by_test (λ z. nat_abs z ≤ h) (ltb x (2 ^ (width - 1))) (pos x) (pos x -ℤ pos (2 ^ width))
       (λ e. omega (arith, ltb-true x (2 ^ (width - 1)) e))
       (λ e. omega (arith, ltb-false x (2 ^ (width - 1)) e, size_diff x (2 ^ width), whole))
 
   pub signed_most : at_least_0 (twos_complement width x) < h
   unfolding twos_complement at_least_0
   signed_most =
-      by-test (λ z. at_least_0 z < h) (ltb x (2 ^ (width - 1))) (pos x) (pos x -ℤ pos (2 ^ width))
+      by_test (λ z. at_least_0 z < h) (ltb x (2 ^ (width - 1))) (pos x) (pos x -ℤ pos (2 ^ width))
       (λ e. omega (arith, ltb-true x (2 ^ (width - 1)) e))
       (λ e. omega (arith, ltb-false x (2 ^ (width - 1)) e, at_least_0_less (pos x) (2 ^ width), whole))
 

@@ -7,7 +7,7 @@ use native.Mathlib.Nat.{add-zero, mul-le-mul, sub_self}
 use native.Mathlib.Omega.{arith}
 use lib.Dec.{ltb, eqb}
 use borrow.Author.Tests.{lt-ltb, ltb-false, eqb-false}
-use Rattle.words.proofs.Signed.{by-test}
+use Rattle.words.proofs.Signed.{by_test}
 use Rattle.fields.specs.Valid.{HeadValid, RowValid, CellValid}
 use Rattle.fields.specs.declared.Head.{Head}
 use Rattle.fields.specs.declared.Row.{Row}
@@ -121,7 +121,7 @@ module _ (h : Head) (c : Cell) (r : Row) (e : Entry) where
 module _ (h : Head) (c : Cell) where
   pub most_entered : most_loss h c ≤ c.entered
   unfolding most_loss
-  most_entered = by-test (λ n. n ≤ c.entered) (ltb c.entered h.thickness) 0 c.entered (λ e. omega arith) (λ e. omega arith)
+  most_entered = by_test (λ n. n ≤ c.entered) (ltb c.entered h.thickness) 0 c.entered (λ e. omega arith) (λ e. omega arith)
 
   most_peat_lem : ltb c.entered h.thickness ≡ false → most_loss h c ≡ c.entered
   unfolding most_loss
@@ -191,7 +191,7 @@ module _ (h : Head) (rows : ℕ → ℕ → Row) (c : Cell) (e : Entry) (t : ℕ
   -- by the two cases
   mm_is : (P : LostMm → Type 0) → (inactive h c e t ≡ true → P no_mm) → (inactive h c e t ≡ false → P (mm_of h c row e)) → P (year_mm h rows c e t)
   unfolding year_mm
-  mm_is P p q = by-test P (inactive h c e t) no_mm (mm_of h c row e) p q
+  mm_is P p q = by_test P (inactive h c e t) no_mm (mm_of h c row e) p q
 
   -- no more is lost after the year than can be
   pub year_most : e.oxidised + e.burned ≤ most_loss h c → (e.oxidised + (year_loss h rows c e t).oxidised) + (e.burned + (year_loss h rows c e t).burned) ≤ most_loss h c

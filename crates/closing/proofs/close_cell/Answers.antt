@@ -17,7 +17,7 @@ put_entry-requires c =
 pub returns-then-inactive : goal.returns-then-inactive
 returns-then-inactive c =
     let stays = step_inactive _ c.args.entry.now c.requires.2 _ c.cell-c.ensures _ c.entry_of-e.ensures (sym c.inactive-inactive.ensures ∙ c.if-inactive.true) in
-    record { value = c.no_loss.ensures ∙ stays.0; after = c.put_entry.ensures ∙ ap (held_words _) stays.1 }
+    record { value = c.no_loss.ensures ∙ stays.0; new_entry = c.put_entry.ensures ∙ ap (held_words _) stays.1 }
 
 -- ---- an active cell
 
@@ -44,4 +44,4 @@ pub returns : goal.returns
 returns c =
     let e = c.entry_of-e.ensures in
     let answered = step_loss _ c.args.entry.now c.requires.2 _ c.cell-c.ensures _ e _ c.active_loss-s.ensures in
-    record { value = answered; after = c.put_entry-2.ensures ∙ ap (held_words _) (c.after_loss.ensures ∙ ap₂ after_loss e answered) }
+    record { value = answered; new_entry = c.put_entry-2.ensures ∙ ap (held_words _) (c.after_loss.ensures ∙ ap₂ after_loss e answered) }

@@ -30,7 +30,7 @@ loop-i-preserved c =
     let t = c.loop-i in
     let pre = c.requires in
     let answered = c.close_cell-s.ensures in
-    (t.invariant.0, progress_next _ pre.1 pre.0 t.i (omega arith) t.invariant.1 _ c.entry_at-a.ensures answered.value answered.after c.put_lines.ensures)
+    (t.invariant.0, progress_next _ pre.1 pre.0 t.i (omega arith) t.invariant.1 _ c.entry_at-a.ensures answered.value answered.new_entry c.put_lines.ensures)
 
 pub returns : goal.returns
 returns c = let all = progress_all c.loop-i.invariant.1 (omega arith) in record { new_book = all.0; new_lines = all.1 }

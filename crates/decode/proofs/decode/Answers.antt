@@ -16,4 +16,4 @@ loop-i-preserved c =
 
 pub returns : goal.returns
 unfolding decoded
-returns c = record { value = refl; words_after = filling_all c.loop-i.invariant c.loop-i-test.false }
+returns c = record { value = refl; new_words = filling_all c.loop-i.invariant c.loop-i-test.false }

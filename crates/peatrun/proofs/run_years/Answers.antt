@@ -30,7 +30,7 @@ pub returns : goal.returns
 returns g c =
     let count = ap (λ (h : Head). h.horizon) c.head-horizon.ensures in
     let all : c.loop-year.year ≡ horizon c.args.listing.now = omega (arith, count, c.loop-year.invariant.0, c.loop-year-test.false) in
-    record { new_book = c.loop-year.invariant.1.admits; book_value = λ _. rw all at c.loop-year.invariant.4 }
+    record { new_book = c.loop-year.invariant.1.admits; every_year = λ _. rw all at c.loop-year.invariant.4 }
 
 pub head-horizon-requires : goal.head-horizon-requires
 head-horizon-requires g c = opened_long _ _ c.requires.0.admits
@@ -40,4 +40,4 @@ print_year-requires g c = let p = c.requires in let cells_most = opened_cells _ 
     p.0.admits in let capacity = p.1 in search rules
 
 pub returns-then-not-print_year : goal.returns-then-not-print_year
-returns-then-not-print_year g c = record { new_book = (ran_opened _ _ _ _ _ _ _ c.loop-year.invariant.1 c.run_year-tonnes.ensures).admits; book_value = λ e. absurd (false≢true e) }
+returns-then-not-print_year g c = record { new_book = (ran_opened _ _ _ _ _ _ _ c.loop-year.invariant.1 c.run_year-tonnes.ensures).admits; every_year = λ e. absurd (false≢true e) }
