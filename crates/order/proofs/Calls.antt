@@ -141,7 +141,7 @@ module _ {n : ℕ} {o : Order n} {l l' b b' : List ℕ} (v : Pair o l l' b b') w
       own_words l' b' m l b (o.from m)
       (record {
         figures = figures;
-        cell_words = rw e.head_is (e.cells_moved.block m lt);
+        listing_words = rw e.head_is (e.cells_moved.block m lt);
         book_words = eb.block m lt;
         year_is = years;
         own_row = λ past. row_is e valid _ _ stratum (let within = converted _ _ past in (omega arith, omega arith));

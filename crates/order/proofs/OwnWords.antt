@@ -34,7 +34,7 @@ own_words l b i l' b' i' same =
     let own_entry = entry_same b b' i i' same.book_words in
     let lost : loss l b i ≡ loss l' b' i' =
     loss_by_figures same.figures (cell l i) (entry b i) (row l) (row l') (year b + 1) same.own_row
-    ∙ rw (cell_same l l' i i' same.cell_words, own_entry, same.year_is) in
+    ∙ rw (cell_same l l' i i' same.listing_words, own_entry, same.year_is) in
     record {
       loss_is = lost;
       words_are = ap₂ (λ (e : Entry) (s : Loss). held_words current.entry (after_loss e s)) own_entry lost;

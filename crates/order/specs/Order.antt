@@ -30,7 +30,7 @@ SameRow l b i l' =
 -- cell i of listing l and book b has the words of cell i' of listing l' and book b'; other cells and sizes may differ
 pub record SameCell (l b : List ℕ) (i : ℕ) (l' b' : List ℕ) (i' : ℕ) : Type 0 where
   pub figures : SameFigures (head l) (head l')
-  pub cell_words : SameWords cell_words l (cell_at l i) l' (cell_at l' i')
+  pub listing_words : SameWords cell_words l (cell_at l i) l' (cell_at l' i')
   pub book_words : SameWords current.entry b (entry_at i) b' (entry_at i')
   pub year_is : year b ≡ year b'
   pub own_row : SameRow l b i l'
