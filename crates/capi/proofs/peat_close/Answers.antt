@@ -1,0 +1,8 @@
+-- `capi::peat_close` meets its contract: the answer is exported as it is, and both slices are as the call leaves them. Assumes nothing.
+use mathlib.Core.Path.{ap, ◌∙◌}
+use Rattle.words.proofs.Effect.{effect_answer, effect_book, effect_output}
+use Rattle.capi.specs.Exported.{exported}
+use Rattle.capi.proofs.peat_close.Goals as goal
+
+pub returns : goal.returns
+returns c = let e = c.close.ensures in record { value = c.of_outcome.ensures ∙ ap exported (effect_answer e); new_book = effect_book e; new_lines = effect_output e }

@@ -1,0 +1,5 @@
+-- `capi::peat_core` meets its contract: the answer is exported as it is. Assumes nothing.
+use Rattle.capi.proofs.peat_core.Goals as goal
+
+pub returns : goal.returns
+returns c = rw (c.of_amount.ensures, c.core.ensures)

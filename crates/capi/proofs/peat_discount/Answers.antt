@@ -1,0 +1,5 @@
+-- `capi::peat_discount` meets its contract: the answer is exported as it is. Assumes nothing.
+use Rattle.capi.proofs.peat_discount.Goals as goal
+
+pub returns : goal.returns
+returns c = rw (c.of_amount.ensures, c.discount.ensures)

@@ -1,0 +1,5 @@
+-- `capi::peat_missing` meets its contract: the answer is exported as it is. Assumes nothing.
+use Rattle.capi.proofs.peat_missing.Goals as goal
+
+pub returns : goal.returns
+returns c = rw (c.of_amount.ensures, c.missing.ensures)

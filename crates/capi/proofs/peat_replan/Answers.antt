@@ -1,0 +1,8 @@
+-- `capi::peat_replan` meets its contract: the answer is exported as it is, and the book is as the call leaves it. Assumes nothing.
+use mathlib.Core.Path.{ap, ◌∙◌}
+use Rattle.words.proofs.Effect.{effect_answer, effect_book}
+use Rattle.capi.specs.Exported.{exported}
+use Rattle.capi.proofs.peat_replan.Goals as goal
+
+pub returns : goal.returns
+returns c = let e = c.replan.ensures in record { value = c.of_outcome.ensures ∙ ap exported (effect_answer e); new_book = effect_book e }

@@ -1,0 +1,5 @@
+-- `capi::peat_statement` meets its contract: the answer is exported as it is. Assumes nothing.
+use Rattle.capi.proofs.peat_statement.Goals as goal
+
+pub returns : goal.returns
+returns c = rw (c.of_stated.ensures, c.statement.ensures)
