@@ -1,4 +1,4 @@
--- `discount::squared` meets its contract: at most five squares of at most 20,000 each. Assumes nothing.
+-- `discount::sum_of_squares` meets its contract: at most five squares of at most 20,000 each. Assumes nothing.
 use borrow.Author.Rules.{rules}
 use Rattle.discount.proofs.Bounds.{squares_le}
 use Rattle.discount.proofs.sum_of_squares.Goals as goal

@@ -1,4 +1,4 @@
--- `terms::added` meets its contract: of both sums, what is summed and what is left make the whole. Assumes nothing.
+-- `terms::term_sums` meets its contract: of both sums, what is summed and what is left make the whole. Assumes nothing.
 use mir.Syntax.{w64}
 use borrow.Author.Rules.{rules}
 use Rattle.words.proofs.Signed.{call_reads}

@@ -1,4 +1,4 @@
--- `terms::added` meets its contract: of both sums, what is summed and what is left make the whole. Assumes nothing.
+-- `terms::term_sums` meets its contract: of both sums, what is summed and what is left make the whole. Assumes nothing.
 use Prim.Native.Nat.{◌-◌, ◌≤◌}
 use lib.ListN.{length}
 use Rattle.fields.specs.Fields.{tonnes_of}

@@ -1,4 +1,4 @@
--- `words::between` meets its contract: its two tests are the definition's. Assumes nothing.
+-- `words::bits_within` meets its contract: its two tests are the definition's. Assumes nothing.
 use Rattle.words.specs.Bits.{within}
 use Rattle.words.proofs.bits_within.Goals as goal
 
