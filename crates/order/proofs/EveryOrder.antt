@@ -18,7 +18,10 @@ use Rattle.order.proofs.EveryBook.{pair_alike}
 same_calls : {n : ℕ} (o : Order n) (l l' b b' : List ℕ) → Pair o l l' b b' → (admitted l b).done ≡ true → (calls : List Call) → SameCalls o l l' b b' calls
 unfolding SameCalls
 same_calls o l l' b b' v a [] = tt
-same_calls o l l' b b' v a (c ∷ calls) = λ y long. (same_call v a c y long, same_calls o l l' (call_effect l b c).book (call_effect l' b' (moved o y c)).book (pair_next v a c y long) (call_admits l b c a) calls)
+same_calls o l l' b b' v a (c ∷ calls) = λ y long. (
+  same_call v a c y long,
+  same_calls o l l' (call_effect l b c).book (call_effect l' b' (moved o y c)).book (pair_next v a c y long) (call_admits l b c a) calls,
+)
 
 pub every_order_from : EveryOrderFrom
 every_order_from n o l b l' b' p admits calls = same_calls o l l' b b' (pair_alike p) admits calls

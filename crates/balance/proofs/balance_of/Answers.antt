@@ -43,14 +43,18 @@ module _ (c : After-terms_to_date-t) where
   buffered : to_z w64 (of_z w64 c.terms_to_date-t.result.buffered) ≡ terms 5
   buffered = cast_reads w64 (terms 5) c.terms_to_date-t.ensures.1 (omega (arith, bounded 5))
 
--- peat and both sums are small, whichever is asked for
+  sums_small : (nat_abs (to_z w64 (of_z w64 c.terms_to_date-t.result.all)) ≤ most_term_sum_below)
+      × (nat_abs (to_z w64 (of_z w64 c.terms_to_date-t.result.buffered)) ≤ most_term_sum_below)
+  sums_small = (omega (arith, ap nat_abs all, bounded 8), omega (arith, ap nat_abs buffered, bounded 5))
+
+-- peat and each of the sums are small
 pub with_peat-n-requires : goal.with_peat-n-requires
 with_peat-n-requires c =
-    (omega (arith, c.requires.1), omega (arith, ap nat_abs (all (goal.at.with_peat-n-requires c).After-terms_to_date-t), ap nat_abs (buffered (goal.at.with_peat-n-requires c).After-terms_to_date-t), bounded (goal.at.with_peat-n-requires c).After-terms_to_date-t 8, bounded (goal.at.with_peat-n-requires c).After-terms_to_date-t 5))
+    (omega (arith, c.requires.1), omega (arith, (sums_small (goal.at.with_peat-n-requires c).After-terms_to_date-t).0))
 
 pub with_peat-s-requires : goal.with_peat-s-requires
 with_peat-s-requires c =
-    (omega (arith, c.requires.1), omega (arith, ap nat_abs (all (goal.at.with_peat-s-requires c).After-terms_to_date-t), ap nat_abs (buffered (goal.at.with_peat-s-requires c).After-terms_to_date-t), bounded (goal.at.with_peat-s-requires c).After-terms_to_date-t 8, bounded (goal.at.with_peat-s-requires c).After-terms_to_date-t 5))
+    (omega (arith, c.requires.1), omega (arith, (sums_small (goal.at.with_peat-s-requires c).After-terms_to_date-t).1))
 
 -- S
 module _ (c : After-with_peat-s) where
@@ -58,7 +62,10 @@ module _ (c : After-with_peat-s) where
   tonnes = call_reads w64 c.with_peat-s.type_inv (c.with_peat-s.ensures ∙ ap (λ (z : ℤ). pos c.args.peat +ℤ z) (buffered (goal.at.After-with_peat-s c).After-terms_to_date-t))
 
 pub withheld-requires : goal.withheld-requires
-withheld-requires c = (omega (arith, percent (goal.at.withheld-requires c).After-terms_to_date-t, c.requires.0.head_valid.buffer), omega (arith, ap nat_abs (tonnes c), small (goal.at.withheld-requires c).Start 5))
+withheld-requires c = (
+  omega (arith, percent (goal.at.withheld-requires c).After-terms_to_date-t, c.requires.0.head_valid.buffer),
+  omega (arith, ap nat_abs (tonnes c), small (goal.at.withheld-requires c).Start 5),
+)
 
 -- N, and what is withheld
 module _ (c : After-withheld) where

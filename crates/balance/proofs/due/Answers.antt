@@ -29,9 +29,12 @@ pub overflow_sub-balance : goal.overflow_sub-balance
 overflow_sub-balance c = sub_fits w64 (z c) (balance c) (pos c.args.issued) (issued c) (capacity c)
 
 module _ (c : After-at_least_0) where
-  is : c.at_least_0.result ≡ due (z (goal.at.After-at_least_0 c).Start) c.args.issued
+  abbrev s : Start
+  s = (goal.at.After-at_least_0 c).Start
+
+  is : c.at_least_0.result ≡ due (z s) s.args.issued
   unfolding due
-  is = c.at_least_0.ensures ∙ ap at_least_0 (sub_reads w64 (z (goal.at.After-at_least_0 c).Start) (balance (goal.at.After-at_least_0 c).Start) (pos c.args.issued) (issued (goal.at.After-at_least_0 c).Start) (capacity (goal.at.After-at_least_0 c).Start))
+  is = c.at_least_0.ensures ∙ ap at_least_0 (sub_reads w64 (z s) (balance s) (pos s.args.issued) (issued s) (capacity s))
 
 pub overflow_cast-result : goal.overflow_cast-result
 unfolding due

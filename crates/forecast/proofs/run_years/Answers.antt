@@ -29,4 +29,7 @@ put_year-requires c =
 pub returns : goal.returns
 unfolding new_book ran_cells
 returns c =
-    record { new_book = rw (c.put_issued.ensures, c.put_year.ensures, c.run_cells.ensures.new_book, c.head-h.ensures); new_output = clear_all _ _ (horizon_is (goal.at.returns c).After-head-h) c.clear.ensures c.run_cells.ensures.new_output }
+    record {
+      new_book = rw (c.put_issued.ensures, c.put_year.ensures, c.run_cells.ensures.new_book, c.head-h.ensures);
+      new_output = clear_all _ _ (horizon_is (goal.at.returns c).After-head-h) c.clear.ensures c.run_cells.ensures.new_output;
+    }

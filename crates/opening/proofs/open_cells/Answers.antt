@@ -39,12 +39,14 @@ new c = c.opened.ensures ∙ ap (λ (x : Cell). opened x.conversion) c.cell-c.en
 
 pub put_entry-requires : goal.put_entry-requires
 put_entry-requires c =
-    (rw (lent (goal.at.put_entry-requires c).After-cell-c) shaped.entry, rw (new c) (opened_storable c.args.listing.now c.requires.0.accepted c.loop-i.i (there (goal.at.put_entry-requires c).In-loop-i)))
+    let at = goal.at.put_entry-requires c in
+    (rw (lent at.After-cell-c) shaped.entry, rw (new c) (opened_storable c.args.listing.now c.requires.0.accepted c.loop-i.i (there at.In-loop-i)))
 
 pub loop-i-preserved : goal.loop-i-preserved
 loop-i-preserved c =
     let inv = c.loop-i.invariant in
-    (inv.0, filling_next inv.1 (there (goal.at.loop-i-preserved c).In-loop-i) c.entry_at-a.result c.entry_at-a.ensures (c.put_entry.ensures ∙ ap₂ held_words (lent (goal.at.loop-i-preserved c).After-cell-c) (new (goal.at.loop-i-preserved c).After-opened)))
+    let at = goal.at.loop-i-preserved c in
+    (inv.0, filling_next inv.1 (there at.In-loop-i) c.entry_at-a.result c.entry_at-a.ensures (c.put_entry.ensures ∙ ap₂ held_words (lent at.After-cell-c) (new at.After-opened)))
 
 pub returns : goal.returns
 returns c = filling_all c.loop-i.invariant.1 (omega (arith, c.loop-i.invariant.0, c.loop-i-test.false))

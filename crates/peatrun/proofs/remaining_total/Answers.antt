@@ -1,7 +1,5 @@
 -- `peatrun::remaining_total` meets its contract: in iteration i the sum is that of the first i cells, below 2 ^ 32 each. Assumes nothing.
 use mathlib.Core.Path.{◌≡◌, ap}
-use mathlib.Core.List.{List}
-use Prim.Native.Nat.{ℕ}
 use native.Mathlib.Omega.{arith}
 use Rattle.words.proofs.Sums.{sum_none, sum_next}
 use Rattle.fields.specs.declared.Head.{Head}
@@ -12,10 +10,7 @@ use Rattle.peatrun.proofs.remaining_total.Goals as goal
 use Rattle.peatrun.proofs.remaining_total.Goals.{At-loop-i}
 
 module _ (a : At-loop-i) where
-  abbrev l : List ℕ
-  l = a.args.listing.now
-
-  count : a.head-cells.result.cells ≡ cells l
+  count : a.head-cells.result.cells ≡ cells a.args.listing.now
   count = ap (λ (h : Head). h.cells) a.head-cells.ensures
 
 pub loop-i-init : goal.loop-i-init
@@ -32,7 +27,7 @@ loop-i-preserved c =
 pub returns : goal.returns
 unfolding remaining_total
 returns c =
-    let all : c.loop-i.i ≡ cells (l (goal.at.returns c).At-loop-i) = omega (arith, count (goal.at.returns c).At-loop-i, c.loop-i.invariant.0, c.loop-i-test.false) in
+    let all : c.loop-i.i ≡ cells c.args.listing.now = omega (arith, count (goal.at.returns c).At-loop-i, c.loop-i.invariant.0, c.loop-i-test.false) in
     rw all at c.loop-i.invariant.3
 
 pub head-cells-requires : goal.head-cells-requires
