@@ -10,17 +10,14 @@ use Rattle.words.specs.Sums.{sum_below}
 use Rattle.words.proofs.Sums.{sum_next, sum_same, sum_most}
 use Rattle.words.proofs.Signed.{size_add, size_minus, at_least_0_size, at_least_0_add, at_least_0_less}
 use Rattle.fields.specs.Words.{most_buffer}
-use Rattle.fields.specs.declared.Head.{Head}
-use Rattle.fields.specs.declared.Cell.{Cell}
-use Rattle.listing.specs.Layout.{head, cells, cell}
+use Rattle.listing.specs.Layout.{head, cells}
 use Rattle.listing.specs.Accepted.{Accepted}
 use Rattle.terms.specs.Terms.{terms_to_date, most_term_sum, most_term_sum_below}
 use Rattle.terms.proofs.Sums.{terms_size, terms_most}
-use Rattle.year.specs.Year.{kg_of, most_emission}
+use Rattle.year.specs.Year.{most_emission}
 use Rattle.year.proofs.Laws.{emission_most}
-use Rattle.book.specs.Current.{current, issued, words_of, kg_to_date, AcceptedBook}
-use Rattle.book.specs.Layout.{issued_words, year, entry_of}
-use Rattle.book.specs.AcceptedBook.{CellWordsValid}
+use Rattle.book.specs.Current.{current, issued, kg_to_date, AcceptedBook}
+use Rattle.book.specs.Layout.{issued_words, year}
 use Rattle.balance.specs.Balance.{peat_tonnes, most_peat, to_date, withheld, balance_of, balance, most_balance, most_tonnes, due, balance_in, tonnes_due}
 
 -- ---- peat: each cell has its most
@@ -32,18 +29,13 @@ module _ (l b : List ℕ) (accepted_book : AcceptedBook l b) where
   unfolding peat_tonnes
   peat_most = let cells_most = accepted_book.fitted.accepted.head_valid.cells.1 in omega (arith, kg_most (cells l) (omega arith))
 
--- an iteration of the sum: h, c, w and r are what the calls for the head, cell i, its words in the book and its kg to date answered
-module _ (l b : List ℕ) (accepted_book : AcceptedBook l b) {h : Head} {i : ℕ} {c : Cell} {w : List ℕ}
-    (ph : h ≡ head l) (pc : c ≡ cell l i) (pw : w ≡ words_of b i) (lt : i < cells l) where
-  pub kg_words : CellWordsValid h c w
-  kg_words = rw (ph, pc, pw) (accepted_book.words_valid i lt)
-
-  -- kg is the sum so far: with r it is that of one cell more, and fits
-  pub kg_next : {kg r : ℕ} → kg ≡ sum_below (kg_to_date l b) i → r ≡ kg_of h c (entry_of w) → (kg + r ≡ sum_below (kg_to_date l b) (i + 1)) × (kg + r < 2 ^ 64)
-  kg_next {kg} {r} pk pr =
-      let cells_most = accepted_book.fitted.accepted.head_valid.cells.1 in
-      let adds : kg + r ≡ sum_below (kg_to_date l b) (i + 1) = sum_next (kg_to_date l b) i pk (rw (pr, ph, pc, pw)) in
-      (adds, omega (arith, kg_most l b accepted_book (i + 1) (omega arith)))
+-- an iteration of the sum: kg is the sum so far, and r the kg to date of cell i; with r it is that of one cell more, and fits
+pub kg_next : (l b : List ℕ) → AcceptedBook l b → {i kg r : ℕ} → i < cells l → kg ≡ sum_below (kg_to_date l b) i → r ≡ kg_to_date l b i →
+    (kg + r ≡ sum_below (kg_to_date l b) (i + 1)) × (kg + r < 2 ^ 64)
+kg_next l b accepted_book {i} {kg} {r} lt pk pr =
+    let cells_most = accepted_book.fitted.accepted.head_valid.cells.1 in
+    let adds : kg + r ≡ sum_below (kg_to_date l b) (i + 1) = sum_next (kg_to_date l b) i pk pr in
+    (adds, omega (arith, kg_most l b accepted_book (i + 1) (omega arith)))
 
 -- ---- the balance
 pub held_size : (p : ℕ) (s : ℤ) → p ≤ most_buffer → withheld p s ≤ nat_abs s

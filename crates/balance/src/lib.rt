@@ -7,39 +7,32 @@ ghost use Rattle.words.specs.Bits.{at_least_0};
 ghost use Rattle.words.specs.Sums.{sum_below};
 ghost use Rattle.fields.specs.Words.{most_buffer};
 ghost use Rattle.listing.specs.Layout.{cells};
-ghost use Rattle.listing.specs.Accepted.{Accepted};
 ghost use Rattle.terms.specs.Terms.{most_term_sum_below};
-ghost use Rattle.book.specs.Current.{kg_to_date, AcceptedBook};
+ghost use Rattle.book.specs.Current.{kg_to_date};
 ghost use Rattle.balance.specs.Balance.{peat_tonnes, most_peat, withheld, balance_of, most_balance, most_tonnes, due, tonnes_due};
 
-use book::BOOK;
+use book::OpenBook;
+use listing::Listing;
 
 // The kg to date of all cells, added.
-fn kg_to_date(listing: &[u32], book: &[u32]) -> u64
-    requires { AcceptedBook listing.now book.now }
-    ensures { result ≡ sum_below (kg_to_date listing.now book.now) (cells listing.now) }
+fn kg_to_date(book: &OpenBook<'_>) -> u64
+    ensures { result ≡ sum_below (kg_to_date book.now.listing.words.now book.now.words.now) (cells book.now.listing.words.now) }
 {
-    let h = listing::head(listing);
-    let cells = h.cells as usize;
     let mut kg: u64 = 0;
-    let mut i: usize = 0;
-    while i < cells {
-        let c = listing::cell(listing, h, i);
-        kg += book::kg_of(h, c, book::words_of(BOOK, book, i)) as u64;
-        i += 1;
+    for i in 0..book.listing.figures.cells as usize {
+        kg += u64::from(book.kg_to_date(i));
     }
     kg
 }
 
 // Peat tonnes to date: term 2.
-fn peat_tonnes(listing: &[u32], book: &[u32]) -> u64
-    requires { AcceptedBook listing.now book.now }
-    ensures { result ≡ peat_tonnes listing.now (kg_to_date listing.now book.now) }
+fn peat_tonnes(book: &OpenBook<'_>) -> u64
+    ensures { result ≡ peat_tonnes book.now.listing.words.now (kg_to_date book.now.listing.words.now book.now.words.now) }
 {
-    kg_to_date(listing, book) / 1000
+    kg_to_date(book) / 1000
 }
 
-// A number, or 0 where it is below 0.
+// A number, or 0 where it is below 0; no conversion of the library does that in one step.
 fn at_least_0(z: i64) -> u64
     ensures { result ≡ at_least_0 z }
 {
@@ -59,15 +52,15 @@ fn withheld(p: u32, s: i64) -> u64
     requires { (p ≤ most_buffer) × (nat_abs s ≤ most_tonnes) }
     ensures { result ≡ withheld p s }
 {
-    (p as u64 * at_least_0(s) + 99) / 100
+    (u64::from(p) * at_least_0(s) + 99) / 100
 }
 
 // The balance, which may be below zero.
-fn balance_of(listing: &[u32], year: u32, peat: u64) -> i64
-    requires { Accepted listing.now × (peat ≤ most_peat) }
-    ensures { result ≡ balance_of listing.now year peat }
+fn balance_of(listing: &Listing<'_>, year: u32, peat: u64) -> i64
+    requires { peat ≤ most_peat }
+    ensures { result ≡ balance_of listing.now.words.now year peat }
 {
-    let p = listing::head(listing).buffer;
+    let p = listing.figures.buffer;
     let t = terms::terms_to_date(listing, year);
     let n = with_peat(peat, t.all);
     let s = with_peat(peat, t.buffered);
@@ -83,11 +76,10 @@ fn due(balance: i64, issued: u64) -> u32
 }
 
 // What an issue on this book pays.
-pub fn tonnes_due(listing: &[u32], book: &[u32]) -> u32
-    requires { AcceptedBook listing.now book.now }
-    ensures { result ≡ tonnes_due listing.now book.now }
+pub fn tonnes_due(book: &OpenBook<'_>) -> u32
+    ensures { result ≡ tonnes_due book.now.listing.words.now book.now.words.now }
 {
-    let peat = peat_tonnes(listing, book);
-    let balance = balance_of(listing, book::year(book), peat);
-    due(balance, book::issued(BOOK, book))
+    let peat = peat_tonnes(book);
+    let balance = balance_of(&book.listing, book.year(), peat);
+    due(balance, book.issued())
 }

@@ -1,5 +1,5 @@
 -- What is known once a book fits its listing, and once it was accepted. Assumes nothing.
-use mathlib.Core.Path.{◌≡◌, sym, ap, ◌∙◌}
+use mathlib.Core.Path.{◌≡◌, sym, ap}
 use mathlib.Core.Bool.{true}
 use mathlib.Core.List.{List}
 use Prim.Native.Nat.{ℕ, ◌+◌, ◌≤◌, ◌<◌}
@@ -9,9 +9,7 @@ use lib.ListN.{length, get_or, drop, length-drop}
 use lib.Seq.{length-take-le}
 use borrow.Author.Tests.{leb-true}
 use Rattle.words.specs.Bits.{within}
-use Rattle.words.specs.Answers.{Answer, outcome}
-use Rattle.words.specs.declared.Outcome.{Outcome}
-use Rattle.words.specs.declared.Outcome.TheVariants.{Done}
+use Rattle.words.specs.Answers.{Answer, accepted as answered}
 use Rattle.words.proofs.Answers.{need_accepted, after_accepted, and_left, and_right, within_most}
 use Rattle.fields.specs.declared.Head.{Head}
 use Rattle.fields.specs.declared.Cell.{Cell}
@@ -25,7 +23,9 @@ use Rattle.year.proofs.Laws.{most_entered}
 use Rattle.book.specs.Layout.{Sized, Shaped, year_at, entry_at, issued_at, issued_words, payload, plan_of, joined, year, issued, entry_of, words_of}
 use Rattle.book.specs.Current.{current}
 use Rattle.book.specs.Check.{is_year_word, is_plan_word, is_burned_word, is_head_word, entry_word_valid, capacity_checked, fitted, book_checked, admitted}
-use Rattle.book.specs.AcceptedBook.{Fitted, CellInBook, All, WordsValid, EntryValid, AcceptedBook}
+use Rattle.book.specs.AcceptedBook.{Fitted, CellInBook, All, WordsValid, EntryValid, CellWordsValid, AcceptedBook}
+use Rattle.book.specs.declared.FittedBook.{FittedBook}
+use Rattle.book.specs.declared.OpenBook.{OpenBook}
 use Rattle.book.specs.declared.Shape.{Shape}
 use Rattle.book.proofs.Places.{entry_before}
 use Rattle.book.proofs.Numbers.{joined_below}
@@ -115,16 +115,34 @@ module _ (s : Shape) (l b : List ℕ) (g : Shaped s) where
   unfolding admitted
   accepted_book h = let both = after_accepted _ _ h in checked_accepted_book (fitted_accepted s l b g both.0) both.1
 
-  -- the same where the call answered `Done`
-  pub fitted_done : (v : Outcome) → outcome v ≡ fitted s l b → v ≡ Done → Fitted s l b
-  fitted_done v e d = fitted_accepted s l b g (ap (λ (a : Answer). a.done) (sym e ∙ ap outcome d))
+  -- the same by the answers
+  pub fitted_by : (x : ℕ) → answered x ≡ fitted s l b → Fitted s l b
+  fitted_by x e = fitted_accepted s l b g (ap (λ (a : Answer). a.done) (sym e))
 
-  pub checked_done : Fitted s l b → (v : Outcome) → outcome v ≡ book_checked s l b → v ≡ Done → AcceptedBook s l b
-  checked_done fits v e d = checked_accepted_book fits (ap (λ (a : Answer). a.done) (sym e ∙ ap outcome d))
+  pub checked_by : (x : ℕ) → Fitted s l b → answered x ≡ book_checked s l b → AcceptedBook s l b
+  checked_by x fits e = checked_accepted_book fits (ap (λ (a : Answer). a.done) (sym e))
 
-  pub accepted_book_done : (v : Outcome) → outcome v ≡ admitted s l b → v ≡ Done → AcceptedBook s l b
-  accepted_book_done v e d = accepted_book (ap (λ (a : Answer). a.done) (sym e ∙ ap outcome d))
+  pub accepted_book_by : (x : ℕ) → answered x ≡ admitted s l b → AcceptedBook s l b
+  accepted_book_by x e = accepted_book (ap (λ (a : Answer). a.done) (sym e))
 
 -- every cell of an accepted book has space for its words
 pub accepted_book_cell : (s : Shape) (l b : List ℕ) → AcceptedBook s l b → (i : ℕ) → i < cells l → CellInBook s b i
 accepted_book_cell s l b accepted_book = fitted_cell s l b accepted_book.fitted
+
+-- ---- an open book, by its ghost field
+
+module _ (b : OpenBook) where
+  -- its head, and cell i with its words
+  pub open_head : current.head ≤ length b.words.now
+  open_head = let capacity = b.accepted.fitted.capacity in omega arith
+
+  pub open_cell : (i : ℕ) → i < cells b.listing.words.now → CellInBook current b.words.now i
+  open_cell = accepted_book_cell current _ _ b.accepted
+
+  pub open_words : (c : Cell) (w : List ℕ) (i : ℕ) → i < cells b.listing.words.now → c ≡ cell b.listing.words.now i → w ≡ words_of current b.words.now i → CellWordsValid b.listing.figures c w
+  open_words c w i lt f g = rw (b.listing.is_head, f, g) (b.accepted.words_valid i lt)
+
+-- ---- a book that fits, by its ghost fields
+
+pub fitted_book : (f : FittedBook) → Fitted f.shape f.listing.words.now f.words.now
+fitted_book f = record { shaped = f.shaped; accepted = f.listing.accepted; capacity = f.capacity }

@@ -15,7 +15,8 @@ use Rattle.words.proofs.Signed.{by_test}
 use Rattle.fields.specs.declared.Head.{Head}
 use Rattle.fields.specs.declared.Cell.{Cell}
 use Rattle.year.specs.declared.Entry.{Entry}
-use Rattle.book.specs.Layout.{year_kind, issued_kind, Shaped, entry_at, year_at, issued_at, issued_words, year, issued, entry_of, words_of, entry, stored, with_year, with_issued, plan_word, with_plan}
+use Rattle.book.specs.Layout.{year_kind, issued_kind, Shaped, entry_at, year_at, issued_at, issued_words, year, issued, entry_of, words_of, entry}
+use Rattle.book.specs.Layout.{stored, with_year, with_issued, plan_word, with_plan}
 use Rattle.book.specs.Check.{entry_word_valid}
 use Rattle.book.specs.AcceptedBook.{CellInBook, All}
 use Rattle.book.specs.declared.Shape.{Shape}

@@ -61,7 +61,8 @@ joined_beside kind from n x b from' n' out =
 -- a word elsewhere is as it was
 pub stored_outside : (kind from n x k : ℕ) (b : List ℕ) → (from ≤ k → from + n ≤ k) → get_or (stored kind b from n x) k 0 ≡ get_or b k 0
 stored_outside kind from n x k b out =
-    stored_keeps (λ (d : List ℕ). get_or d k 0 ≡ get_or b k 0) kind from n x b (λ d m w h below small e. get_or-set_other d m k (word_of kind w) 0 (λ q. let far = out (omega arith) in omega arith) ∙ e) refl
+    stored_keeps (λ (d : List ℕ). get_or d k 0 ≡ get_or b k 0) kind from n x b
+    (λ d m w h below small e. get_or-set_other d m k (word_of kind w) 0 (λ q. let far = out (omega arith) in omega arith) ∙ e) refl
 
 -- and it is read back
 pub joined_stored : (kind from n x : ℕ) (b : List ℕ) → from + n ≤ length b → x < 2 ^ (28 * n) → joined (stored kind b from n x) from n ≡ x

@@ -2,24 +2,29 @@
 // call begins. Each takes the book's shape.
 #![tactic(auto)]
 
-ghost use Rattle.std.specs.Prelude.{◌≡◌, true, ◌+◌, ◌*◌, ◌^◌, ◌<◌, ◌≤◌, length, set};
+ghost use Rattle.std.specs.Prelude.{◌≡◌, true, ◌+◌, ◌*◌, ◌^◌, ◌<◌, ◌≤◌, length, set, IfOk};
 ghost use Rattle.words.specs.Bits.{word_of};
+ghost use Rattle.words.specs.Kinds.{kind_of};
 ghost use Rattle.words.specs.Search.{first_invalid};
 ghost use Rattle.words.specs.Answers.{outcome};
 ghost use Rattle.listing.specs.Layout.{head, cells};
-ghost use Rattle.listing.specs.Accepted.{Accepted};
 ghost use Rattle.year.specs.Year.{kg_of};
 ghost use Rattle.book.specs.Layout.{Sized, Shaped, year_at, issued_words, entry_at, book_size, joined, year, issued, entry_of, words_of, entry, with_year, stored};
 ghost use Rattle.book.specs.Layout.{with_issued, plan_word, with_plan, held_words};
 ghost use Rattle.book.specs.Check.{is_year_word, is_plan_word, is_burned_word, is_head_word, head_word_valid, entry_word_valid, book_word_valid, capacity_checked, fitted, book_checked, admitted};
 ghost use Rattle.book.specs.AcceptedBook.{Fitted, CellInBook, All, Storable, CellWordsValid};
+ghost use Rattle.book.specs.Current as current;
+ghost use Rattle.std.proofs.Props.{props};
+ghost use Rattle.fields.proofs.Valid.{listed_prop};
 
 use fields::{Cell, Head};
-use words::{BOOK_SHORT, BOOK_WORD, Outcome, bits, refuse};
+use listing::Listing;
+use words::{Field, Kind, PAYLOAD, Reason, Refusal, first_invalid, need, refuse};
 use year::Entry;
 
-// How many words a book's head has, and a cell in it.
-#[derive(Clone, Copy)]
+// How many words a book's head has, and a cell in it. `Shaped` stays a fact of clauses: as a ghost field its
+// proof would stand in each shape of the definitions.
+#[derive(Clone, Copy, Debug, PartialEq, Eq)]
 pub struct Shape {
     pub head: usize,
     pub entry: usize,
@@ -31,28 +36,36 @@ pub const BOOK: Shape = Shape { head: 2, entry: 3 };
 // The words of a cell in the lines of a closing.
 pub const LINE_WORDS: usize = 3;
 
-// The kinds of its words: year, tonnes issued, mark and plan year, mm oxidised, mm burned.
-const YEAR_KIND: u32 = 8;
+// The bits of a cell's mark and of its plan year, and those between the plan year and the kind that are 0.
+const MARK: Field = Field { high: 8, low: 8 };
 
-const ISSUED_KIND: u32 = 9;
+const PLAN: Field = Field { high: 7, low: 0 };
 
-const PLAN_KIND: u32 = 10;
-
-const OXIDISED_KIND: u32 = 11;
-
-const BURNED_KIND: u32 = 12;
-
-// And of a cell's lines.
-pub const OXIDISED_LINE_KIND: u32 = 13;
-
-pub const BURNED_LINE_KIND: u32 = 14;
-
-pub const KG_LINE_KIND: u32 = 15;
+const PLAN_ZEROS: Field = Field { high: 27, low: 9 };
 
 // Where the current year is, and where the tonnes issued begin.
 const YEAR_AT: usize = 0;
 
 const ISSUED_AT: usize = 1;
+
+// An accepted listing, and a slice with space for its book, whose words are not tested yet.
+#[derive(Clone, Copy)]
+struct FittedBook<'a> {
+    shape: Shape,
+    listing: Listing<'a>,
+    words: &'a [u32],
+    ghost shaped: { Shaped shape },
+    ghost capacity: { book_size shape (cells listing.words.now) ≤ length words.now },
+}
+
+// An accepted listing, and an accepted book for it. A slice that is lent to be written has no such type,
+// and its facts stay in clauses: they are false between the writes of its words.
+#[derive(Clone, Copy)]
+pub struct OpenBook<'a> {
+    pub listing: Listing<'a>,
+    pub words: &'a [u32],
+    pub ghost accepted: { current.AcceptedBook listing.words.now words.now } by { Prim.hlevel (props, listed_prop) },
+}
 
 // Where cell `i` begins; at the number of cells, how many words a book needs.
 pub fn entry_at(s: Shape, i: usize) -> usize
@@ -75,13 +88,13 @@ pub fn words_of(s: Shape, book: &[u32], i: usize) -> &[u32]
 fn is_year_word(w: u32, horizon: u32) -> bool
     ensures { result ≡ is_year_word horizon w }
 {
-    words::is_kind(w, YEAR_KIND) & words::bits_within(w, 27, 0, 0, horizon)
+    Kind::Year.is_of(w) & PAYLOAD.is_within(w, 0, horizon)
 }
 
 fn is_plan_word(w: u32, horizon: u32) -> bool
     ensures { result ≡ is_plan_word horizon w }
 {
-    words::is_kind(w, PLAN_KIND) & (bits(w, 27, 9) == 0) & words::bits_within(w, 7, 0, 0, horizon)
+    Kind::Plan.is_of(w) & (PLAN_ZEROS.of(w) == 0) & PLAN.is_within(w, 0, horizon)
 }
 
 // Whether a cell's word of mm burned is valid, behind its word of mm oxidised: not more is lost than
@@ -89,17 +102,17 @@ fn is_plan_word(w: u32, horizon: u32) -> bool
 fn is_burned_word(before: u32, w: u32, most: u32) -> bool
     ensures { result ≡ is_burned_word most before w }
 {
-    words::is_kind(w, BURNED_KIND) & (bits(before, 27, 0) + bits(w, 27, 0) <= most)
+    Kind::Burned.is_of(w) & (PAYLOAD.of(before) + PAYLOAD.of(w) <= most)
 }
 
-// Whether the word at `k` of the head is valid.
+// Whether the word at `k` of the head is valid: which it is, its place says.
 fn is_head_word(w: u32, k: usize, horizon: u32) -> bool
     ensures { result ≡ is_head_word horizon k w }
 {
     if k == YEAR_AT {
         return is_year_word(w, horizon);
     }
-    words::is_kind(w, ISSUED_KIND)
+    Kind::Issued.is_of(w)
 }
 
 // The first word of a book's head that is invalid; where there is none, the head's size.
@@ -107,23 +120,24 @@ fn first_invalid_head_word(s: Shape, h: Head, book: &[u32]) -> usize
     requires { s.head ≤ length book.now }
     ensures { result ≡ first_invalid (head_word_valid h.horizon book.now) 0 s.head }
 {
-    let mut k: usize = 0;
-    while k < s.head {
-        if !is_head_word(book[k], k, h.horizon) {
-            break;
-        }
-        k += 1;
-    }
-    k
+    first_invalid(
+        0,
+        s.head,
+        |k: usize| -> bool
+            requires { k < length book.now }
+            ensures { result ≡ head_word_valid h.horizon book.entry.now k }
+        { is_head_word(book[k], k, h.horizon) },
+    )
 }
 
-// Whether all of a cell's own words are valid: without a branch for each, since most are.
+// Whether all of a cell's own words are valid: without a branch for each, since most are. They are lent as
+// a slice, since a cell of a coming shape has more.
 fn entry_valid(h: Head, c: Cell, entry: &[u32]) -> bool
     requires { Sized (length entry.now) }
     ensures { result ≡ true → All (entry_word_valid h c entry.now) (length entry.now) }
 {
     let plan = is_plan_word(entry[0], h.horizon);
-    let oxidised = words::is_kind(entry[1], OXIDISED_KIND);
+    let oxidised = Kind::Oxidised.is_of(entry[1]);
     plan & oxidised & is_burned_word(entry[1], entry[2], year::most_loss(h, c))
 }
 
@@ -135,7 +149,7 @@ fn first_invalid_entry_word(h: Head, c: Cell, entry: &[u32]) -> usize
     if !is_plan_word(entry[0], h.horizon) {
         return 0;
     }
-    if !words::is_kind(entry[1], OXIDISED_KIND) {
+    if !Kind::Oxidised.is_of(entry[1]) {
         return 1;
     }
     if !is_burned_word(entry[1], entry[2], year::most_loss(h, c)) {
@@ -144,112 +158,128 @@ fn first_invalid_entry_word(h: Head, c: Cell, entry: &[u32]) -> usize
     entry.len()
 }
 
-// Whether the words of all cells are valid, without a branch for each cell.
-fn cells_valid(s: Shape, listing: &[u32], h: Head, book: &[u32], end: usize) -> bool
-    requires { Fitted s listing.now book.now × (h ≡ head listing.now) × (end ≡ book_size s (cells listing.now)) }
-    ensures { result ≡ true → end ≡ first_invalid (book_word_valid s listing.now book.now) s.head end }
-{
-    let cells = h.cells as usize;
-    let mut valid = true;
-    let mut i: usize = 0;
-    while i < cells {
-        valid = valid & entry_valid(h, listing::cell(listing, h, i), words_of(s, book, i));
-        i += 1;
+impl FittedBook<'_> {
+    // How many words the book needs.
+    fn size(&self) -> usize
+        ensures { result ≡ book_size self.now.shape (cells self.now.listing.words.now) }
+    {
+        entry_at(self.shape, self.listing.figures.cells as usize)
     }
-    valid
-}
 
-// The first word of the cells that is invalid; where there is none, `end`.
-fn first_invalid_cell_word(s: Shape, listing: &[u32], h: Head, book: &[u32], end: usize) -> usize
-    requires { Fitted s listing.now book.now × (h ≡ head listing.now) × (end ≡ book_size s (cells listing.now)) }
-    ensures { result ≡ first_invalid (book_word_valid s listing.now book.now) s.head end }
-{
-    let cells = h.cells as usize;
-    let mut i: usize = 0;
-    while i < cells {
-        let j = first_invalid_entry_word(h, listing::cell(listing, h, i), words_of(s, book, i));
-        if j < s.entry {
-            return entry_at(s, i) + j;
+    // Whether the words of all cells are valid, without a branch for each cell.
+    fn cells_valid(&self) -> bool
+        ensures { result ≡ true →
+            book_size self.now.shape (cells self.now.listing.words.now)
+            ≡ first_invalid (book_word_valid self.now.shape self.now.listing.words.now self.now.words.now) self.now.shape.head (book_size self.now.shape (cells self.now.listing.words.now)) }
+    {
+        let mut valid = true;
+        for i in 0..self.listing.figures.cells as usize {
+            let words = words_of(self.shape, self.words, i);
+            valid &= entry_valid(self.listing.figures, self.listing.cell(i), words);
         }
-        i += 1;
+        valid
     }
-    end
-}
 
-// The first word of a book that is invalid; where there is none, `end`.
-fn first_invalid_word(s: Shape, listing: &[u32], h: Head, book: &[u32], end: usize) -> usize
-    requires { Fitted s listing.now book.now × (h ≡ head listing.now) × (end ≡ book_size s (cells listing.now)) }
-    ensures { result ≡ first_invalid (book_word_valid s listing.now book.now) 0 end }
-{
-    let k = first_invalid_head_word(s, h, book);
-    if k < s.head {
-        return k;
+    // The first word of the cells that is invalid; where there is none, the book's size.
+    fn first_invalid_cell_word(&self) -> usize
+        ensures { result
+            ≡ first_invalid (book_word_valid self.now.shape self.now.listing.words.now self.now.words.now) self.now.shape.head (book_size self.now.shape (cells self.now.listing.words.now)) }
+    {
+        for i in 0..self.listing.figures.cells as usize {
+            let words = words_of(self.shape, self.words, i);
+            let j = first_invalid_entry_word(self.listing.figures, self.listing.cell(i), words);
+            if j < self.shape.entry {
+                return entry_at(self.shape, i) + j;
+            }
+        }
+        self.size()
     }
-    if cells_valid(s, listing, h, book, end) {
-        return end;
+
+    // The first word of the book that is invalid; where there is none, its size.
+    fn first_invalid_word(&self) -> usize
+        ensures { result
+            ≡ first_invalid (book_word_valid self.now.shape self.now.listing.words.now self.now.words.now) 0 (book_size self.now.shape (cells self.now.listing.words.now)) }
+    {
+        let k = first_invalid_head_word(self.shape, self.listing.figures, self.words);
+        if k < self.shape.head {
+            return k;
+        }
+        if self.cells_valid() {
+            return self.size();
+        }
+        self.first_invalid_cell_word()
     }
-    first_invalid_cell_word(s, listing, h, book, end)
 }
 
 // Number 6, for a valid listing.
-#[tactic(auto, using(words::proofs::Answers::answers), unfolding(crate::specs::Check::capacity_checked))]
-pub fn check_capacity(s: Shape, listing: &[u32], book: &[u32]) -> Outcome
-    requires { Shaped s × Accepted listing.now }
-    ensures { outcome result ≡ capacity_checked s listing.now book.now }
+pub fn check_capacity(s: Shape, listing: &Listing<'_>, book: &[u32]) -> Result<(), Refusal>
+    requires { Shaped s }
+    ensures { outcome result ≡ capacity_checked s listing.now.words.now book.now }
 {
-    let size = entry_at(s, listing::head(listing).cells as usize);
-    if book.len() < size {
-        return refuse(BOOK_SHORT, book.len());
-    }
-    Outcome::Done
+    let size = entry_at(s, listing.figures.cells as usize);
+    need(size <= book.len(), Reason::BookShort, book.len())
 }
 
 // Numbers 1 to 6: a valid listing, and space for its book.
-pub fn fits(s: Shape, listing: &[u32], book: &[u32]) -> Outcome
+pub fn fits<'a>(s: Shape, listing: &'a [u32], book: &[u32]) -> Result<Listing<'a>, Refusal>
     requires { Shaped s }
-    ensures { outcome result ≡ fitted s listing.now book.now }
+    ensures value { outcome result ≡ fitted s listing.now book.now }
+    ensures same_words { IfOk result (λ l. l.words.now ≡ listing.now) }
 {
-    match listing::check(listing) {
-        Outcome::Done => check_capacity(s, listing, book),
-        Outcome::Refused(why) => Outcome::Refused(why),
-    }
+    let accepted = listing::check(listing)?;
+    check_capacity(s, &accepted, book)?;
+    Ok(accepted)
 }
 
 // Number 8, for a valid listing and a book that is long enough.
-pub fn check_book(s: Shape, listing: &[u32], book: &[u32]) -> Outcome
-    requires { Fitted s listing.now book.now }
-    ensures { outcome result ≡ book_checked s listing.now book.now }
+pub fn check_book(s: Shape, listing: &Listing<'_>, book: &[u32]) -> Result<(), Refusal>
+    requires { Fitted s listing.now.words.now book.now }
+    ensures { outcome result ≡ book_checked s listing.now.words.now book.now }
 {
-    let h = listing::head(listing);
-    let end = entry_at(s, h.cells as usize);
-    let at = first_invalid_word(s, listing, h, book, end);
-    if at < end {
-        return refuse(BOOK_WORD, at);
+    let fitted = FittedBook {
+        shape: s,
+        listing: *listing,
+        words: book,
+    };
+    let at = fitted.first_invalid_word();
+    if at < fitted.size() {
+        return refuse(Reason::BookWord, at);
     }
-    Outcome::Done
+    Ok(())
 }
 
 // Numbers 1 to 6 and 8, with which every call on an open book but a closing begins.
-pub fn admit(s: Shape, listing: &[u32], book: &[u32]) -> Outcome
+pub fn admit<'a>(s: Shape, listing: &'a [u32], book: &[u32]) -> Result<Listing<'a>, Refusal>
     requires { Shaped s }
-    ensures { outcome result ≡ admitted s listing.now book.now }
+    ensures value { outcome result ≡ admitted s listing.now book.now }
+    ensures same_words { IfOk result (λ l. l.words.now ≡ listing.now) }
 {
-    match fits(s, listing, book) {
-        Outcome::Done => check_book(s, listing, book),
-        Outcome::Refused(why) => Outcome::Refused(why),
-    }
+    let accepted = fits(s, listing, book)?;
+    check_book(s, &accepted, book)?;
+    Ok(accepted)
 }
 
-// The number in `n` words, one or two, from `from` on.
+// The same for a book that the calls take.
+pub fn read<'a>(listing: &'a [u32], book: &'a [u32]) -> Result<OpenBook<'a>, Refusal>
+    ensures value { outcome result ≡ current.admitted listing.now book.now }
+    ensures same_listing { IfOk result (λ b. b.listing.words.now ≡ listing.now) }
+    ensures same_book { IfOk result (λ b. b.words.now ≡ book.now) }
+{
+    let accepted = admit(BOOK, listing, book)?;
+    Ok(OpenBook {
+        listing: accepted,
+        words: book,
+    })
+}
+
+// The number in `n` words, one or two, from `from` on: by place and count, as the definitions have it.
 fn joined(book: &[u32], from: usize, n: usize) -> u64
     requires { (n ≤ 2) × (from + n ≤ length book.now) }
     ensures { result ≡ joined book.now from n }
 {
     let mut x: u64 = 0;
-    let mut k: usize = 0;
-    while k < n {
-        x = x * 268_435_456 + bits(book[from + k], 27, 0) as u64;
-        k += 1;
+    for k in 0..n {
+        x = x * 268_435_456 + u64::from(PAYLOAD.of(book[from + k]));
     }
     x
 }
@@ -259,7 +289,7 @@ pub fn year(book: &[u32]) -> u32
     requires { year_at < length book.now }
     ensures { result ≡ year book.now }
 {
-    bits(book[YEAR_AT], 27, 0)
+    PAYLOAD.of(book[YEAR_AT])
 }
 
 // The tonnes issued.
@@ -270,16 +300,16 @@ pub fn issued(s: Shape, book: &[u32]) -> u64
     joined(book, ISSUED_AT, s.head - ISSUED_AT)
 }
 
-// The entry that a cell's own words hold.
+// The entry that a cell's own words hold. Three of them at least are asked for, which no `From` can do.
 pub fn entry_of(words: &[u32]) -> Entry
     requires { 3 ≤ length words.now }
     ensures { result ≡ entry_of words.now }
 {
     Entry {
-        withdrawn: bits(words[0], 8, 8) == 1,
-        plan: bits(words[0], 7, 0),
-        oxidised: bits(words[1], 27, 0),
-        burned: bits(words[2], 27, 0),
+        withdrawn: MARK.of(words[0]) == 1,
+        plan: PLAN.of(words[0]),
+        oxidised: PAYLOAD.of(words[1]),
+        burned: PAYLOAD.of(words[2]),
     }
 }
 
@@ -301,24 +331,22 @@ pub fn kg_of(h: Head, c: Cell, words: &[u32]) -> u32
 }
 
 // Writes the word of a kind at `at`.
-fn put_payload(book: &mut [u32], at: usize, kind: u32, payload: u32)
-    requires { (at < length book.old) × (kind < 16) × (payload < 2 ^ 28) }
-    ensures { book.new ≡ set book.old at (word_of kind payload) }
+fn put_payload(book: &mut [u32], at: usize, kind: Kind, payload: u32)
+    requires { (at < length book.old) × (payload < 2 ^ 28) }
+    ensures { book.new ≡ set book.old at (word_of (kind_of kind) payload) }
 {
-    book[at] = words::word(kind, payload);
+    book[at] = kind.word(payload);
 }
 
 // Writes a number into `n` words of a kind, from `from` on.
-fn put_joined(book: &mut [u32], from: usize, n: usize, kind: u32, x: u64)
-    requires { (from + n ≤ length book.old) × (kind < 16) }
-    ensures { book.new ≡ stored kind book.old from n x }
+fn put_joined(book: &mut [u32], from: usize, n: usize, kind: Kind, x: u64)
+    requires { from + n ≤ length book.old }
+    ensures { book.new ≡ stored (kind_of kind) book.old from n x }
 {
     let mut rest = x;
-    let mut k = n;
-    while 0 < k {
-        k -= 1;
+    for k in (0..n).rev() {
         put_payload(book, from + k, kind, (rest % 268_435_456) as u32);
-        rest = rest / 268_435_456;
+        rest /= 268_435_456;
     }
 }
 
@@ -327,7 +355,7 @@ pub fn put_year(book: &mut [u32], year: u32)
     requires { year_at < length book.old }
     ensures { book.new ≡ with_year book.old year }
 {
-    put_joined(book, YEAR_AT, 1, YEAR_KIND, year as u64);
+    put_joined(book, YEAR_AT, 1, Kind::Year, u64::from(year));
 }
 
 // Writes the tonnes issued.
@@ -335,7 +363,7 @@ pub fn put_issued(s: Shape, book: &mut [u32], tonnes: u64)
     requires { Shaped s × (s.head ≤ length book.old) × (tonnes < 2 ^ (28 * issued_words s)) }
     ensures { book.new ≡ with_issued s book.old tonnes }
 {
-    put_joined(book, ISSUED_AT, s.head - ISSUED_AT, ISSUED_KIND, tonnes);
+    put_joined(book, ISSUED_AT, s.head - ISSUED_AT, Kind::Issued, tonnes);
 }
 
 // The word of a mark and a plan year.
@@ -343,8 +371,8 @@ fn plan_word(withdrawn: bool, plan: u32) -> u32
     requires { plan < 2 ^ 8 }
     ensures { result ≡ plan_word withdrawn plan }
 {
-    let mark = if withdrawn { 1 } else { 0 };
-    words::word(PLAN_KIND, (mark << 8) | plan)
+    let mark = u32::from(withdrawn);
+    Kind::Plan.word((mark << 8) | plan)
 }
 
 // Writes the mark and the plan year of an entry as those of cell `i`.
@@ -362,6 +390,39 @@ pub fn put_entry(words: &mut [u32], e: Entry)
     ensures { words.new ≡ held_words (length words.old) e }
 {
     words[0] = plan_word(e.withdrawn, e.plan);
-    words[1] = words::word(OXIDISED_KIND, e.oxidised);
-    words[2] = words::word(BURNED_KIND, e.burned);
+    words[1] = Kind::Oxidised.word(e.oxidised);
+    words[2] = Kind::Burned.word(e.burned);
+}
+
+impl OpenBook<'_> {
+    // The current year.
+    pub fn year(&self) -> u32
+        ensures { result ≡ year self.now.words.now }
+    {
+        year(self.words)
+    }
+
+    // The tonnes issued.
+    pub fn issued(&self) -> u64
+        ensures { result ≡ current.issued self.now.words.now }
+    {
+        issued(BOOK, self.words)
+    }
+
+    // The entry that it holds of cell `i`.
+    pub fn entry(&self, i: usize) -> Entry
+        requires { i < cells self.now.listing.words.now }
+        ensures { result ≡ current.entry self.now.words.now i }
+    {
+        entry(BOOK, self.words, i)
+    }
+
+    // The kg to date of cell `i`.
+    pub fn kg_to_date(&self, i: usize) -> u32
+        requires { i < cells self.now.listing.words.now }
+        ensures { result ≡ current.kg_to_date self.now.listing.words.now self.now.words.now i }
+    {
+        let c = self.listing.cell(i);
+        kg_of(self.listing.figures, c, words_of(BOOK, self.words, i))
+    }
 }

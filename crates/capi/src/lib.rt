@@ -11,13 +11,13 @@ ghost use Rattle.reading.specs.declared.Reading.TheVariants.{Core, Levels, Missi
 ghost use Rattle.discount.specs.Discount.{discount};
 ghost use Rattle.capi.specs.Exported.{exported, exported_account};
 
-use ledger::Stated;
-use words::{Amount, Outcome, Refusal};
+use ledger::CellFigures;
+use words::Refusal;
 
-// The answer of a call: number 0 where it is accepted, and otherwise the refusal's number and place,
-// with the value 0. In this order it is returned in two registers.
+// The answer of a call, as include/peat.h has it: number 0 where it is accepted, and otherwise the
+// refusal's number and place, with the value 0. In this order it is returned in two registers.
 #[repr(C)]
-#[derive(Clone, Copy)]
+#[derive(Clone, Copy, Debug, PartialEq, Eq)]
 pub struct Answer {
     pub number: u32,
     pub value: u32,
@@ -26,7 +26,7 @@ pub struct Answer {
 
 // The answer of a statement: number and place as above, and what is stated of the cell.
 #[repr(C)]
-#[derive(Clone, Copy)]
+#[derive(Clone, Copy, Debug, PartialEq, Eq)]
 pub struct Account {
     pub number: u32,
     pub place: usize,
@@ -39,70 +39,62 @@ pub struct Account {
     pub withdrawn: bool,
 }
 
-fn accept(value: u32) -> Answer
-    ensures { result ≡ exported (accepted value) }
-{
-    Answer {
-        number: 0,
-        value,
-        place: 0,
+impl From<Result<u32, Refusal>> for Answer {
+    ghost from_gives = { λ answer a. a ≡ exported (amount answer) };
+
+    fn from(answer: Result<u32, Refusal>) -> Answer {
+        match answer {
+            Ok(value) => Answer {
+                number: 0,
+                value,
+                place: 0,
+            },
+            Err(why) => Answer {
+                number: why.reason.number(),
+                value: 0,
+                place: why.place,
+            },
+        }
     }
 }
 
-fn refuse(why: Refusal) -> Answer
-    ensures { result ≡ exported (refused why.number why.place) }
-{
-    Answer {
-        number: why.number,
-        value: 0,
-        place: why.place,
+// A call that answers no number answers 0.
+impl From<Result<(), Refusal>> for Answer {
+    ghost from_gives = { λ answer a. a ≡ exported (outcome answer) };
+
+    fn from(answer: Result<(), Refusal>) -> Answer {
+        Answer::from(answer.map(|()| 0))
     }
 }
 
-fn of_outcome(answer: Outcome) -> Answer
-    ensures { result ≡ exported (outcome answer) }
-{
-    match answer {
-        Outcome::Done => accept(0),
-        Outcome::Refused(why) => refuse(why),
-    }
-}
+impl From<Result<CellFigures, Refusal>> for Account {
+    ghost from_gives = { λ answer a. a ≡ exported_account (stated answer) };
 
-fn of_amount(answer: Amount) -> Answer
-    ensures { result ≡ exported (amount answer) }
-{
-    match answer {
-        Amount::Value(value) => accept(value),
-        Amount::Refused(why) => refuse(why),
-    }
-}
-
-fn of_stated(answer: Stated) -> Account
-    ensures { result ≡ exported_account (stated answer) }
-{
-    match answer {
-        Stated::Value(a) => Account {
-            number: 0,
-            place: 0,
-            entered: a.entered,
-            remaining: a.remaining,
-            oxidised: a.oxidised,
-            burned: a.burned,
-            kg: a.kg,
-            plan_year: a.plan_year,
-            withdrawn: a.withdrawn,
-        },
-        Stated::Refused(why) => Account {
-            number: why.number,
-            place: why.place,
-            entered: 0,
-            remaining: 0,
-            oxidised: 0,
-            burned: 0,
-            kg: 0,
-            plan_year: 0,
-            withdrawn: false,
-        },
+    fn from(answer: Result<CellFigures, Refusal>) -> Account {
+        match answer {
+            Ok(a) => Account {
+                number: 0,
+                place: 0,
+                entered: a.entered,
+                remaining: a.remaining,
+                oxidised: a.oxidised,
+                burned: a.burned,
+                kg: a.kg,
+                plan_year: a.plan_year,
+                withdrawn: a.withdrawn,
+            },
+            Err(why) => Account {
+                number: why.reason.number(),
+                place: why.place,
+                entered: 0,
+                remaining: 0,
+                oxidised: 0,
+                burned: 0,
+                kg: 0,
+                plan_year: 0,
+                withdrawn: false,
+            },
+        }
     }
 }
 
@@ -111,7 +103,7 @@ pub extern "C" fn peat_open(listing: &[u32], book: &mut [u32]) -> Answer
     ensures value { result ≡ exported (open_effect listing.now book.old).answer }
     ensures new_book { book.new ≡ (open_effect listing.now book.old).book }
 {
-    of_outcome(ledger::open(listing, book))
+    Answer::from(ledger::open(listing, book))
 }
 
 #[unsafe(no_mangle)]
@@ -120,7 +112,7 @@ pub extern "C" fn peat_close(listing: &[u32], book: &mut [u32], lines: &mut [u32
     ensures new_book { book.new ≡ (close_effect listing.now book.old lines.old).book }
     ensures new_lines { lines.new ≡ (close_effect listing.now book.old lines.old).output }
 {
-    of_outcome(ledger::close(listing, book, lines))
+    Answer::from(ledger::close(listing, book, lines))
 }
 
 #[unsafe(no_mangle)]
@@ -128,7 +120,7 @@ pub extern "C" fn peat_replan(listing: &[u32], book: &mut [u32], cell: usize, ye
     ensures value { result ≡ exported (replan_effect listing.now book.old cell year).answer }
     ensures new_book { book.new ≡ (replan_effect listing.now book.old cell year).book }
 {
-    of_outcome(ledger::replan(listing, book, cell, year))
+    Answer::from(ledger::replan(listing, book, cell, year))
 }
 
 #[unsafe(no_mangle)]
@@ -136,7 +128,7 @@ pub extern "C" fn peat_withdraw(listing: &[u32], book: &mut [u32], cell: usize) 
     ensures value { result ≡ exported (withdraw_effect listing.now book.old cell).answer }
     ensures new_book { book.new ≡ (withdraw_effect listing.now book.old cell).book }
 {
-    of_outcome(ledger::withdraw(listing, book, cell))
+    Answer::from(ledger::withdraw(listing, book, cell))
 }
 
 // The value is the tonnes issued.
@@ -145,14 +137,14 @@ pub extern "C" fn peat_issue(listing: &[u32], book: &mut [u32]) -> Answer
     ensures value { result ≡ exported (issue_effect listing.now book.old).answer }
     ensures new_book { book.new ≡ (issue_effect listing.now book.old).book }
 {
-    of_amount(ledger::issue(listing, book))
+    Answer::from(ledger::issue(listing, book))
 }
 
 #[unsafe(no_mangle)]
 pub extern "C" fn peat_statement(listing: &[u32], book: &[u32], cell: usize) -> Account
     ensures { result ≡ exported_account (statement_answer listing.now book.now cell) }
 {
-    of_stated(ledger::statement(listing, book, cell))
+    Account::from(ledger::statement(listing, book, cell))
 }
 
 #[unsafe(no_mangle)]
@@ -161,7 +153,7 @@ pub extern "C" fn peat_forecast(listing: &[u32], book: &mut [u32], output: &mut 
     ensures new_book { book.new ≡ (forecast_effect listing.now book.old output.old).book }
     ensures new_output { output.new ≡ (forecast_effect listing.now book.old output.old).output }
 {
-    of_outcome(forecast::forecast(listing, book, output))
+    Answer::from(forecast::forecast(listing, book, output))
 }
 
 // The depth of a core; the value is its mm, as for the two calls below.
@@ -169,7 +161,7 @@ pub extern "C" fn peat_forecast(listing: &[u32], book: &mut [u32], output: &mut 
 pub extern "C" fn peat_core(metres: f32) -> Answer
     ensures { result ≡ exported (depth (Core metres)) }
 {
-    of_amount(reading::core(metres))
+    Answer::from(reading::core(metres))
 }
 
 // The depth between a pair of levels.
@@ -177,7 +169,7 @@ pub extern "C" fn peat_core(metres: f32) -> Answer
 pub extern "C" fn peat_levels(surface: f32, base: f32) -> Answer
     ensures { result ≡ exported (depth (Levels surface base)) }
 {
-    of_amount(reading::levels(surface, base))
+    Answer::from(reading::levels(surface, base))
 }
 
 // The answer to a reading that is missing.
@@ -185,7 +177,7 @@ pub extern "C" fn peat_levels(surface: f32, base: f32) -> Answer
 pub extern "C" fn peat_missing() -> Answer
     ensures { result ≡ exported (depth Missing) }
 {
-    of_amount(reading::missing())
+    Answer::from(reading::missing())
 }
 
 // The value is the discount in ten-thousandths.
@@ -198,5 +190,5 @@ pub extern "C" fn peat_discount(
 ) -> Answer
     ensures { result ≡ exported (discount first_widths.now second_widths.now first_stocks.now second_stocks.now) }
 {
-    of_amount(discount::discount(first_widths, second_widths, first_stocks, second_stocks))
+    Answer::from(discount::discount(first_widths, second_widths, first_stocks, second_stocks))
 }

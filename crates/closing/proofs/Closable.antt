@@ -6,34 +6,29 @@ use Prim.Native.Nat.{ℕ, zero-le, ◌+◌, ◌*◌, ◌≤◌, ◌<◌}
 use native.Mathlib.Omega.{arith}
 use lib.Dec.{leb, ltb}
 use borrow.Author.Tests.{le-leb, lt-ltb, leb-true, ltb-true}
-use Rattle.words.specs.Answers.{Answer, accepted, outcome, need, after}
+use Rattle.words.specs.Answers.{Answer, accepted, need, after}
 use Rattle.words.specs.Refusals.{lines_short, horizon_reached, line_too_large}
-use Rattle.words.specs.declared.Outcome.{Outcome}
-use Rattle.words.specs.declared.Outcome.TheVariants.{Done}
 use Rattle.words.proofs.Answers.{need_accepted, need_all_accepted, after_accepted, need_is, need_all_is, after_is}
-use Rattle.fields.specs.declared.Head.{Head}
 use Rattle.fields.specs.declared.Cell.{Cell}
-use Rattle.fields.specs.declared.Row.{Row}
-use Rattle.fields.specs.Valid.{RowValid}
 use Rattle.listing.specs.Layout.{head, cells, strata, horizon, row, cell}
-use Rattle.year.specs.Year.{inactive, age, loss_of, no_loss, most_line, year_loss, after_loss}
+use Rattle.listing.specs.Accepted.{Accepted}
+use Rattle.year.specs.Year.{inactive, age, most_line, year_loss, after_loss}
 use Rattle.year.specs.Limits.{WithinLimits}
 use Rattle.year.specs.declared.Entry.{Entry}
-use Rattle.year.specs.declared.Loss.{Loss}
-use Rattle.year.proofs.Laws.{active, converted, loss_active, loss_inactive, after_loss_none, most_entered, year_most, year_kg_most}
+use Rattle.year.proofs.Laws.{active, converted, most_entered, year_most, year_kg_most}
 use Rattle.book.specs.Current.{current, entry, fitted, book_checked, admitted, AcceptedBook}
-use Rattle.book.specs.Layout.{line_words, year, entry_of}
+use Rattle.book.specs.Layout.{line_words, year}
 use Rattle.book.specs.AcceptedBook.{Storable, EntryValid}
 use Rattle.book.proofs.Valid.{admitted_valid, valid_checked, checked_admits}
 use Rattle.book.proofs.AcceptedBook.{shaped, accepted_book}
 use Rattle.book.proofs.Held.{valid_storable}
 use Rattle.book.proofs.Keeps.{admitted_fitted}
-use Rattle.closing.specs.Closing.{cell_loss, loss, EveryLine, lines_checked, most_payload, line_fits, year_checked, close_answer}
+use Rattle.closing.specs.Closing.{loss, EveryLine, lines_checked, most_payload, line_fits, year_checked, close_answer}
 use Rattle.closing.specs.Closable.{CellYear, NextYear, Closable}
 
 -- ---- a cell that is worked out
-module _ {l : List ℕ} {h : Head} {c : Cell} {e : Entry} {t : ℕ} (g : CellYear l h c e t) where
-  -- its entry after the year is valid too, and its mm to date are at most 20,000
+module _ {l : List ℕ} (a : Accepted l) {c : Cell} {e : Entry} {t : ℕ} (g : CellYear l c e t) where
+  -- its entry is valid after the year too, and its mm to date are at most 20,000
   abbrev entry_then : Entry
   entry_then = after_loss e (year_loss (head l) (row l) c e t)
 
@@ -46,72 +41,23 @@ module _ {l : List ℕ} {h : Head} {c : Cell} {e : Entry} {t : ℕ} (g : CellYea
   lost_then = omega (arith, cell_year_valid.lost, g.cell_valid.entered)
 
   pub cell_year_storable : Storable entry_then
-  cell_year_storable = valid_storable g.accepted.head_valid g.cell_valid entry_then cell_year_valid
+  cell_year_storable = valid_storable a.head_valid g.cell_valid entry_then cell_year_valid
 
-  pub cell_year_fit : WithinLimits h c e.oxidised e.burned
-  cell_year_fit = rw g.head_is (record { head_valid = g.accepted.head_valid; cell_valid = g.cell_valid; lost = g.entry_valid.lost })
-
-  -- whatever row is read, its figures are in range
-  pub losing_row : (r : Row) (stratum age : ℕ) → r ≡ row l stratum age → RowValid r
-  losing_row r stratum age r-is = rw r-is (g.accepted.row_valid stratum age)
-
-  -- where it is inactive
-  pub inactive_loss : inactive h c e t ≡ true → no_loss ≡ year_loss (head l) (row l) c e t
-  inactive_loss q = sym (loss_inactive (head l) (row l) c e t (rw g.head_is at q))
+  pub cell_year_fit : WithinLimits (head l) c e.oxidised e.burned
+  cell_year_fit = record { head_valid = a.head_valid; cell_valid = g.cell_valid; lost = g.entry_valid.lost }
 
   -- where it is active, its table has a row for its age
-  module _ (q : inactive h c e t ≡ false) where
-    active_is : inactive (head l) c e t ≡ false
-    active_is = rw g.head_is at q
-
-    pub active_age : (e.plan ≤ t) × (c.stratum < strata l) × (1 ≤ age e.plan t) × (age e.plan t ≤ horizon l)
-    active_age =
-        let p = converted e.plan t (active (head l) c e t active_is).0 in
-        let time = g.in_time in
-        (p.1, g.cell_valid.stratum, omega arith, omega arith)
-
-    pub active_loss_lem : (r : Row) → r ≡ row l c.stratum (age e.plan t) → (s : Loss) → s ≡ loss_of h c r e → s ≡ year_loss (head l) (row l) c e t
-    active_loss_lem r r-is s s_is = (rw (r-is, g.head_is) at s_is) ∙ sym (loss_active (head l) (row l) c e t active_is)
-
--- the entry e that is read from a cell's own words can be written again
-pub step_kept : {l : List ℕ} {h : Head} {t : ℕ} (i : ℕ) (w : List ℕ) → CellYear l h (cell l i) (entry_of w) t → (e : Entry) → e ≡ entry_of w → Storable e
-step_kept i w g e e_is = rw e_is (valid_storable g.accepted.head_valid g.cell_valid (entry_of w) g.entry_valid)
-
--- a cell's own words w, which the step was lent: c is the cell and e the entry that it read
-module _ {l : List ℕ} {h : Head} {t : ℕ} (i : ℕ) (w : List ℕ) (g : CellYear l h (cell l i) (entry_of w) t) (c : Cell) (c_is : c ≡ cell l i) (e : Entry) (e_is : e ≡ entry_of w) where
-  pub step_cell_year : CellYear l h c e t
-  step_cell_year = rw (c_is, e_is) g
-
-  -- s is the loss that was answered
-  module _ (s : Loss) (s_is : s ≡ year_loss (head l) (row l) c e t) where
-    pub step_loss : s ≡ cell_loss l t i (entry_of w)
-    step_loss = rw (c_is, e_is) at s_is
-
-    pub step_storable : Storable (after_loss e s)
-    step_storable = rw s_is (cell_year_storable step_cell_year)
-
-  -- where it is inactive its entry stays
-  pub step_inactive : inactive h c e t ≡ true → (no_loss ≡ cell_loss l t i (entry_of w)) × (e ≡ after_loss (entry_of w) (cell_loss l t i (entry_of w)))
-  step_inactive q =
-      let nothing = rw (c_is, e_is) at (inactive_loss step_cell_year q) in
-      (nothing, e_is ∙ rw (← nothing) (sym (after_loss_none (entry_of w))))
+  pub active_age : inactive (head l) c e t ≡ false → (e.plan ≤ t) × (c.stratum < strata l) × (1 ≤ age e.plan t) × (age e.plan t ≤ horizon l)
+  active_age q =
+      let p = converted e.plan t (active (head l) c e t q).0 in
+      let time = g.in_time in
+      (p.1, g.cell_valid.stratum, omega arith, omega arith)
 
 -- every cell of a valid book can be
-pub next_cell_year : {l : List ℕ} {h : Head} {b : List ℕ} {t : ℕ} → NextYear l h b t → (i : ℕ) → i < cells l → CellYear l h (cell l i) (entry b i) t
+pub next_cell_year : {l b : List ℕ} {t : ℕ} → NextYear l b t → (i : ℕ) → i < cells l → CellYear l (cell l i) (entry b i) t
 next_cell_year g i lt =
     let next = g.next in
-    let accepted = g.accepted_book.fitted.accepted in
-    record {
-      accepted = accepted;
-      head_is = g.head_is;
-      cell_valid = accepted.cell_valid i lt;
-      entry_valid = g.accepted_book.entry_valid i lt;
-      in_time = (omega arith, g.in_time);
-    }
-
-module _ {l : List ℕ} {h : Head} {b : List ℕ} {t : ℕ} (g : NextYear l h b t) where
-  pub next_year_cells : h.cells ≡ cells l
-  next_year_cells = ap (λ (h : Head). h.cells) g.head_is
+    record { cell_valid = g.accepted_book.fitted.accepted.cell_valid i lt; entry_valid = g.accepted_book.entry_valid i lt; in_time = (omega arith, g.in_time) }
 
 -- ---- a valid book before the horizon: no kg line is too large for its word
 
@@ -158,8 +104,9 @@ module _ (l b : List ℕ) (capacity : ℕ) where
         fits = λ i lt. leb-true _ _ ((need_all_accepted _ _ _ _ _ h₄.1).0 i zero-le lt);
       }
 
-  pub closable_done : (v : Outcome) → outcome v ≡ close_answer l b capacity → v ≡ Done → Closable l b capacity
-  closable_done v e d = closable (ap (λ (a : Answer). a.done) (sym e ∙ ap outcome d))
+  -- the same by the answer
+  pub closable_by : (x : ℕ) → accepted x ≡ close_answer l b capacity → Closable l b capacity
+  closable_by x e = closable (ap (λ (a : Answer). a.done) (sym e))
 
   -- an accepted book before the horizon, with space for its lines
   pub closable_before : line_words * cells l ≤ capacity → year b < horizon l → (admitted l b).done ≡ true → Closable l b capacity

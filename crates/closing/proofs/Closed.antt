@@ -7,6 +7,7 @@ use native.Mathlib.Omega.{arith}
 use lib.ListN.{length, get_or}
 use Rattle.words.proofs.Blocks.{length_filled, filled_word}
 use Rattle.listing.specs.Layout.{head, cells, cell}
+use Rattle.listing.specs.Accepted.{Accepted}
 use Rattle.book.specs.Current.{current, book_size, issued, words_of, Holds}
 use Rattle.book.specs.Layout.{year_kind, oxidised_line_kind, burned_line_kind, kg_line_kind, line_words, year_at, payload, year, lines_of, oxidised_line, burned_line, kg_line}
 use Rattle.book.specs.AcceptedBook.{Storable, EntryValid}
@@ -49,15 +50,18 @@ module _ (l b : List ℕ) (capacity : book_size (cells l) ≤ length b) where
 -- ---- by what they say
 
 module _ (l b : List ℕ) (capacity : ℕ) (p : Closable l b capacity) where
-  next_year : NextYear l (head l) b (year b + 1)
-  next_year = next_year_is p.accepted_book p.ahead refl refl
+  next_year : NextYear l b (year b + 1)
+  next_year = next_year_is p.accepted_book p.ahead refl
+
+  valid : Accepted l
+  valid = p.accepted_book.fitted.accepted
 
   -- the entry of cell i is valid, and so fits its words
   pub closed_valid : (i : ℕ) → i < cells l → EntryValid (head l) (cell l i) (closed_entry l b i)
-  closed_valid i lt = cell_year_valid (next_cell_year next_year i lt)
+  closed_valid i lt = cell_year_valid valid (next_cell_year next_year i lt)
 
   closed_storable : (i : ℕ) → i < cells l → Storable (closed_entry l b i)
-  closed_storable i lt = cell_year_storable (next_cell_year next_year i lt)
+  closed_storable i lt = cell_year_storable valid (next_cell_year next_year i lt)
 
   -- all words: the cells', then the year's
   pub year_holds : Holds l (book_after l b) (year b + 1) (issued b) (closed_entry l b)

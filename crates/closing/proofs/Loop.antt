@@ -7,7 +7,6 @@ use lib.ListN.{length, take, drop}
 use borrow.Rule.Slice.PartMut.{put_mid}
 use Rattle.words.specs.Blocks.{filled}
 use Rattle.words.proofs.Blocks.{Filling, filling_none, filling_lent, filling_lent_length, filling_next, filling_all}
-use Rattle.fields.specs.declared.Head.{Head}
 use Rattle.listing.specs.Layout.{head, cells, horizon, cell}
 use Rattle.year.specs.Year.{after_loss}
 use Rattle.year.specs.declared.Loss.{Loss}
@@ -38,7 +37,7 @@ module _ {l b : List ℕ} (d : List ℕ) (k : Closable l b (length d)) where
   progress_none = record { book = filling_none (closed_sized l b) k.accepted_book.fitted.capacity; lines = filling_none (lines_sized l b) (omega (arith, k.capacity)) }
 
   -- the iteration of cell i, whose words begin at a
-  module _ {h : Head} {t : ℕ} (g : NextYear l h b t) (i : ℕ) (lt : i < cells l) {x y : List ℕ} (r : Progress l b d i x y) (a : ℕ) (here : a ≡ entry_at i) where
+  module _ {t : ℕ} (g : NextYear l b t) (i : ℕ) (lt : i < cells l) {x y : List ℕ} (r : Progress l b d i x y) (a : ℕ) (here : a ≡ entry_at i) where
     -- its words that are lent
     abbrev lent : List ℕ
     lent = take (a + current.entry - a) (drop a x)
@@ -50,8 +49,8 @@ module _ {l b : List ℕ} (d : List ℕ) (k : Closable l b (length d)) where
     lent_sized : length lent ≡ current.entry
     lent_sized = filling_lent_length r.book lt a here
 
-    pub iteration_cell_year : CellWordsValid h (cell l i) lent × (i < cells l) × CellYear l h (cell l i) (entry_of lent) t
-    iteration_cell_year = (rw (lent_is, g.head_is) (g.accepted_book.words_valid i lt), lt, rw lent_is (next_cell_year g i lt))
+    pub iteration_cell_year : CellWordsValid (head l) (cell l i) lent × (i < cells l) × CellYear l (cell l i) (entry_of lent) t
+    iteration_cell_year = (rw lent_is (g.accepted_book.words_valid i lt), lt, rw lent_is (next_cell_year g i lt))
 
     iteration_loss : cell_loss l t i (entry_of lent) ≡ loss l b i
     iteration_loss = rw (lent_is, g.next)
@@ -63,7 +62,7 @@ module _ {l b : List ℕ} (d : List ℕ) (k : Closable l b (length d)) where
 
       pub iteration_fits : (s.oxidised ≤ most_payload) × (s.burned ≤ most_payload) × (s.kg ≤ most_payload)
       iteration_fits =
-          let most = rw g.next at (lost_then (next_cell_year g i lt)) in
+          let most = rw g.next at (lost_then k.accepted_book.fitted.accepted (next_cell_year g i lt)) in
           rw answered (omega arith, omega arith, k.fits i lt)
 
       -- ws and ls are the words and the lines that came back
@@ -84,5 +83,5 @@ unfolding lines_after
 progress_all r le = (filling_all r.book le, filling_all r.lines le)
 
 -- t is the year after the current one
-pub next_year_is : {l b : List ℕ} {h : Head} {t : ℕ} → AcceptedBook l b → year b < horizon l → h ≡ head l → t ≡ year b + 1 → NextYear l h b t
-next_year_is s ahead h-is t-is = record { accepted_book = s; head_is = h-is; next = t-is; in_time = omega arith }
+pub next_year_is : {l b : List ℕ} {t : ℕ} → AcceptedBook l b → year b < horizon l → t ≡ year b + 1 → NextYear l b t
+next_year_is s ahead t-is = record { accepted_book = s; next = t-is; in_time = omega arith }

@@ -1,32 +1,23 @@
 -- What a list that is not refused keeps to, and its sums with it. Assumes nothing.
 use mathlib.Core.Path.{◌≡◌}
-use mathlib.Core.Bool.{true, ◌&&◌}
+use mathlib.Core.Bool.{true}
 use mathlib.Core.List.{List}
 use Prim.Native.Nat.{ℕ, ◌*◌, ◌≤◌}
 use native.Mathlib.Nat.{mul-le-mul}
 use native.Mathlib.Omega.{arith}
-use lib.Dec.{eqb}
 use lib.ListN.{length}
 use mir.Val.{Fits}
 use mir.Syntax.{w64}
-use borrow.Author.Tests.{eqb-true}
+use Rattle.std.proofs.lemmas.Bool.Decides.{nat_tests}
 use Rattle.words.specs.Bits.{within}
-use Rattle.words.proofs.Answers.{and_left, and_right, within_most}
 use Rattle.sums.specs.Sums.{weighted, sum}
 use Rattle.sums.proofs.Meaning.{weighted_le, sum_le}
 use Rattle.discount.specs.Discount.{square, distance, lengths_valid, values_valid, most_pools, most_value}
 use Rattle.discount.specs.Bounds.{most_stock, most_squares, Bounded}
 
 pub lengths : (a b c d : ℕ) → lengths_valid a b c d ≡ true → (a ≡ b) × (a ≡ c) × (a ≡ d) × (a ≤ most_pools)
-unfolding lengths_valid
-lengths a b c d h =
-    let h₁ = and_left (eqb a b && eqb a c && eqb a d) (within 1 most_pools a) h in
-    let h₂ = and_left (eqb a b && eqb a c) (eqb a d) h₁ in (
-      eqb-true a b (and_left (eqb a b) (eqb a c) h₂),
-      eqb-true a c (and_right (eqb a b) (eqb a c) h₂),
-      eqb-true a d (and_right (eqb a b && eqb a c) (eqb a d) h₁),
-      within_most 1 most_pools a (and_right (eqb a b && eqb a c && eqb a d) (within 1 most_pools a) h),
-    )
+unfolding lengths_valid within
+lengths a b c d h = (grind (arith, nat_tests), grind (arith, nat_tests), grind (arith, nat_tests), grind (arith, nat_tests))
 
 -- four lists that pass the tests
 pub bounded : {a b c d : List ℕ} → lengths_valid (length a) (length b) (length c) (length d) ≡ true → values_valid a ≡ true → values_valid b ≡ true → values_valid c ≡ true →

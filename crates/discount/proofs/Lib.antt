@@ -4,4 +4,4 @@ pub mod Meaning
 pub mod Bounds
 pub mod Newton
 pub mod Rounded
-pub mod Pools
+pub mod Passed

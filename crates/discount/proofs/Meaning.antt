@@ -52,3 +52,6 @@ every_discount =
       rounded = λ Q D h k. subst (RoundedDown Q D) (last Q D h k) (rounded_down_lem Q D (omega arith));
       only = λ Q D n h k r. rounded_down_only Q D n (omega arith) r ∙ last Q D h k;
     }
+
+-- the four cases, by which the answers of `factor` are found
+pub ruleset cases = (no_distance, no_discount, too_wide, between)

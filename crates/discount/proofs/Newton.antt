@@ -1,7 +1,7 @@
 -- The root of a whole number, rounded down, by Newton's steps: a step from any number above 0 is not below it, and a step from above it falls. Assumes nothing.
 use mathlib.Core.Path.{◌≡◌, ap}
 use Prim.Native.Nat.{ℕ, suc, ◌+◌, ◌-◌, ◌*◌, ◌/◌, ◌<◌, ◌≤◌}
-use native.Mathlib.Nat.{mul-le-mul_right, div-lt_iff_lt-mul, lt-suc_self, div-le_self, le_of_lt, lt_of_not-le, pos_of_ne-zero}
+use native.Mathlib.Nat.{mul-le-mul, mul-le-mul_right, div-lt_iff_lt-mul, lt-suc_self, div-le_self, le_of_lt, lt_of_not-le, pos_of_ne-zero}
 use native.Mathlib.Decide.{dec_le}
 use native.Mathlib.Omega.{arith}
 use Rattle.discount.specs.Discount.{square}
@@ -44,3 +44,5 @@ step_between n r s least most h b e =
     let low = b.low in
     let high = b.high in
     record { low = omega arith; high = omega (arith, div-le_self n r) }
+
+pub ruleset steps = (div-le_self, mul-le-mul, root_positive, step_above, step_falls)

@@ -48,3 +48,5 @@ module _ (q d : ℕ) (h₁ : 0 < q) (h₂ : q < d * d) where
           at_least = rw k (omega (arith, not_below));
           above = λ m g₁ g₂. omega (arith, falls (10000 - m) (omega arith), below);
         })
+
+pub ruleset roots = (quotient_small, quotient_fits, root_small, root_rounded)

@@ -1,7 +1,7 @@
 -- What the contracts of private functions cite, and no contract of the call: lists that are not refused, and what their sums are at most.
 use Rattle.std.specs.Prelude.{ℕ, ◌*◌, ◌≤◌, ◌≡◌, Bool, true, false, ◌&&◌, List, leb, length}
 use Rattle.sums.specs.Sums.{sum}
-use Rattle.discount.specs.Discount.{square, lengths_valid, values_valid, most_pools, most_value}
+use Rattle.discount.specs.Discount.{square, values_valid, most_pools, most_value}
 
 -- a list that is not refused
 pub record Bounded (values : List ℕ) : Type 0 where
@@ -25,10 +25,13 @@ pool_valid a b c d = leb a most_value && leb b most_value && leb c most_value &&
 
 -- four lists of which one is refused by its values: the last, unless one before it is
 pub record TooLarge (a b c d : List ℕ) : Type 0 where
-  pub lengths : lengths_valid (length a) (length b) (length c) (length d) ≡ true
   pub last : values_valid a ≡ true → values_valid b ≡ true → values_valid c ≡ true → values_valid d ≡ false
 
--- four lists, with the sums of the last two where none is refused by its values
-pub record StockSums (a b c d : List ℕ) (valid : Bool) (first second : ℕ) : Type 0 where
-  pub valid_gives : valid ≡ true → Bounded a × Bounded b × Bounded c × Bounded d × (first ≡ sum c) × (second ≡ sum d)
-  pub refused_gives : valid ≡ false → TooLarge a b c d
+-- four lists of which none is refused, with the sums of the last two
+pub record StockSums (a b c d : List ℕ) (first second : ℕ) : Type 0 where
+  pub first_widths : Bounded a
+  pub second_widths : Bounded b
+  pub first_stocks : Bounded c
+  pub second_stocks : Bounded d
+  pub first_is : first ≡ sum c
+  pub second_is : second ≡ sum d

@@ -2,27 +2,37 @@
 // pools to ten-thousandths, in whole numbers throughout.
 #![tactic(auto)]
 
-ghost use Rattle.std.specs.Prelude.{◌≡◌, true, ◌+◌, ◌*◌, ◌/◌, ◌<◌, ◌≤◌, length};
+ghost use Rattle.std.specs.Prelude.{◌≡◌, true, ◌+◌, ◌*◌, ◌/◌, ◌<◌, ◌≤◌, length, MatchOption};
 ghost use Rattle.words.specs.Answers.{amount};
 ghost use Rattle.sums.specs.Sums.{weighted};
-ghost use Rattle.discount.specs.Discount.{discount, lengths_valid, distance, factor, rounded_down};
+ghost use Rattle.discount.specs.Discount.{discount, lengths_valid, factor, rounded_down};
 ghost use Rattle.discount.specs.Bounds.{pool_valid, most_stock, most_squares, root_limit, Bounded, TooLarge, StockSums};
 
-use words::{Amount, LIST_LENGTHS, VALUE_TOO_LARGE, refuse_amount};
+use words::{Reason, Refusal, refuse};
 
 const MOST_POOLS: usize = 5;
 
 const MOST_VALUE: u32 = 20_000; // of a value, in tenths of t CO2e per ha
 
-// The sums of two lists of stocks, where no value of the four lists is too large.
+// Four lists with one value for each of one to five carbon pools.
+#[derive(Clone, Copy)]
+struct Pools<'a> {
+    first_widths: &'a [u32],
+    second_widths: &'a [u32],
+    first_stocks: &'a [u32],
+    second_stocks: &'a [u32],
+    ghost lengths: { lengths_valid (length first_widths.now) (length second_widths.now) (length first_stocks.now) (length second_stocks.now) ≡ true },
+}
+
+// The sums of both classes' stocks.
 #[derive(Clone, Copy)]
 struct StockTotals {
-    valid: bool,
     first: u64,
     second: u64,
 }
 
 // Whether four lists of these lengths have one value for each of one to five carbon pools.
+#[tactic(auto, unfolding(crate::specs::Discount::lengths_valid, words::specs::Bits::within))]
 fn lengths_valid(a: usize, b: usize, c: usize, d: usize) -> bool
     ensures { result ≡ lengths_valid a b c d }
 {
@@ -30,19 +40,15 @@ fn lengths_valid(a: usize, b: usize, c: usize, d: usize) -> bool
 }
 
 // Whether the values of one carbon pool in the four lists are not too large.
+#[tactic(auto, unfolding(crate::specs::Bounds::pool_valid))]
 fn pool_valid(a: u32, b: u32, c: u32, d: u32) -> bool
     ensures { result ≡ pool_valid a b c d }
 {
     (a <= MOST_VALUE) & (b <= MOST_VALUE) & (c <= MOST_VALUE) & (d <= MOST_VALUE)
 }
 
-fn distance(x: u64, y: u64) -> u64
-    ensures { result ≡ distance x y }
-{
-    if x < y { y - x } else { x - y }
-}
-
 // The sum of a list's squares.
+#[tactic(auto, using(crate::proofs::Bounds::squares_le))]
 fn sum_of_squares(widths: &[u32]) -> u64
     requires { Bounded widths.now }
     ensures { (result ≡ weighted widths.now widths.now) × (result ≤ most_squares) }
@@ -50,41 +56,50 @@ fn sum_of_squares(widths: &[u32]) -> u64
     sums::weighted_sum(widths, widths)
 }
 
-// Adds up the stocks of both classes, and tests every value of the four lists, pool by pool.
-fn stock_sums(
-    first_widths: &[u32],
-    second_widths: &[u32],
-    first_stocks: &[u32],
-    second_stocks: &[u32],
-) -> StockTotals
-    requires { lengths_valid (length first_widths.now) (length second_widths.now) (length first_stocks.now) (length second_stocks.now) ≡ true }
-    ensures { StockSums first_widths.now second_widths.now first_stocks.now second_stocks.now result.valid result.first result.second }
-{
-    let mut first: u64 = 0;
-    let mut second: u64 = 0;
-    let mut i: usize = 0;
-    while i < first_widths.len() {
-        let a = first_stocks[i];
-        let b = second_stocks[i];
-        if !pool_valid(first_widths[i], second_widths[i], a, b) {
-            return StockTotals {
-                valid: false,
-                first,
-                second,
-            };
+impl Pools<'_> {
+    // Adds up the stocks of both classes, and tests every value of the four lists, pool by pool: no
+    // sums where one is too large.
+    #[tactic(auto, using(crate::proofs::Bounds::lengths, crate::proofs::Passed::pools))]
+    fn stock_sums(&self) -> Option<StockTotals>
+        ensures { MatchOption result
+            (TooLarge self.now.first_widths.now self.now.second_widths.now self.now.first_stocks.now self.now.second_stocks.now)
+            (λ sums. StockSums self.now.first_widths.now self.now.second_widths.now self.now.first_stocks.now self.now.second_stocks.now sums.first sums.second) }
+    {
+        let mut first: u64 = 0;
+        let mut second: u64 = 0;
+        for i in 0..self.first_widths.len() {
+            let a = self.first_stocks[i];
+            let b = self.second_stocks[i];
+            if !pool_valid(self.first_widths[i], self.second_widths[i], a, b) {
+                return None;
+            }
+            first += u64::from(a);
+            second += u64::from(b);
         }
-        first += a as u64;
-        second += b as u64;
-        i += 1;
+        Some(StockTotals { first, second })
     }
-    StockTotals {
-        valid: true,
-        first,
-        second,
+
+    // The answer to four lists of which one at least has a value that is too large: the first such list.
+    #[tactic(auto, using(words::proofs::Answers::answers), unfolding(crate::specs::Discount::discount))]
+    fn refuse_value(&self) -> Result<u32, Refusal>
+        requires { TooLarge self.now.first_widths.now self.now.second_widths.now self.now.first_stocks.now self.now.second_stocks.now }
+        ensures { amount result ≡ discount self.now.first_widths.now self.now.second_widths.now self.now.first_stocks.now self.now.second_stocks.now }
+    {
+        if !sums::all_at_most(MOST_VALUE, self.first_widths) {
+            return refuse(Reason::ValueTooLarge, 0);
+        }
+        if !sums::all_at_most(MOST_VALUE, self.second_widths) {
+            return refuse(Reason::ValueTooLarge, 1);
+        }
+        if !sums::all_at_most(MOST_VALUE, self.first_stocks) {
+            return refuse(Reason::ValueTooLarge, 2);
+        }
+        refuse(Reason::ValueTooLarge, 3)
     }
 }
 
 // One step of Newton's towards the root of n, from any r above 0.
+#[tactic(auto, using(crate::proofs::Newton::steps))]
 fn newton_step(n: u32, r: u32) -> u32
     requires { (n ≤ root_limit) × (0 < r) × (r ≤ root_limit) }
     ensures { result ≡ (r + n / r) / 2 }
@@ -93,14 +108,15 @@ fn newton_step(n: u32, r: u32) -> u32
 }
 
 // The root of n, rounded down. A discount asks for no n below 2,250,000; of those from there on one
-// in a hundred takes a fourth step.
+// in a hundred takes a fourth step: the loop goes by no index.
+#[tactic(auto, using(crate::proofs::Newton::steps))]
 fn root(n: u32) -> u32
     requires { n < root_limit }
     ensures { (result * result ≤ n) × (n < (result + 1) * (result + 1)) }
 {
     let middle = if n < 16_000_000 { 2_500 } else { 6_500 };
     let mut r = newton_step(n, newton_step(n, newton_step(n, middle)));
-    while (n as u64) < r as u64 * r as u64 {
+    while u64::from(n) < u64::from(r) * u64::from(r) {
         r = newton_step(n, r);
     }
     r
@@ -108,6 +124,7 @@ fn root(n: u32) -> u32
 
 // 10,000 × √q / d rounded up is one more than the root of what is just below its square, rounded
 // down: the square's whole part, and one less where the square is whole.
+#[tactic(auto, using(crate::proofs::Bounds::square_le, crate::proofs::Rounded::roots))]
 fn rounded_down(q: u64, d: u64) -> u32
     requires { (d ≤ most_stock) × (0 < q) × (q < d * d) }
     ensures { result ≡ rounded_down q d }
@@ -115,7 +132,7 @@ fn rounded_down(q: u64, d: u64) -> u32
     9_999 - root(((100_000_000 * q - 1) / (d * d)) as u32)
 }
 
-#[tactic(auto, using(crate::proofs::Meaning::no_distance))]
+#[tactic(auto, using(crate::proofs::Meaning::cases, crate::proofs::Bounds::nine_fits))]
 fn factor(q: u64, d: u64) -> u32
     requires { (q ≤ 2 * most_squares) × (d ≤ most_stock) }
     ensures { result ≡ factor q d }
@@ -132,36 +149,15 @@ fn factor(q: u64, d: u64) -> u32
     rounded_down(q, d)
 }
 
-// The answer to four lists of which one at least has a value that is too large: the first such list.
-fn refuse_value(
-    first_widths: &[u32],
-    second_widths: &[u32],
-    first_stocks: &[u32],
-    second_stocks: &[u32],
-) -> Amount
-    requires { TooLarge first_widths.now second_widths.now first_stocks.now second_stocks.now }
-    ensures { amount result ≡ discount first_widths.now second_widths.now first_stocks.now second_stocks.now }
-{
-    if !sums::all_at_most(MOST_VALUE, first_widths) {
-        return refuse_amount(VALUE_TOO_LARGE, 0);
-    }
-    if !sums::all_at_most(MOST_VALUE, second_widths) {
-        return refuse_amount(VALUE_TOO_LARGE, 1);
-    }
-    if !sums::all_at_most(MOST_VALUE, first_stocks) {
-        return refuse_amount(VALUE_TOO_LARGE, 2);
-    }
-    refuse_amount(VALUE_TOO_LARGE, 3)
-}
-
 // The discount of two classes in ten-thousandths, or why the lists are refused and which: each list
 // has one value for each carbon pool.
+#[tactic(auto, using(words::proofs::Answers::answers, crate::proofs::Bounds::distance_le), unfolding(crate::specs::Discount::discount))]
 pub fn discount(
     first_widths: &[u32],
     second_widths: &[u32],
     first_stocks: &[u32],
     second_stocks: &[u32],
-) -> Amount
+) -> Result<u32, Refusal>
     ensures { amount result ≡ discount first_widths.now second_widths.now first_stocks.now second_stocks.now }
 {
     if !lengths_valid(
@@ -170,13 +166,18 @@ pub fn discount(
         first_stocks.len(),
         second_stocks.len(),
     ) {
-        return refuse_amount(LIST_LENGTHS, 0);
+        return refuse(Reason::ListLengths, 0);
     }
-    let stocks = stock_sums(first_widths, second_widths, first_stocks, second_stocks);
-    if !stocks.valid {
-        return refuse_value(first_widths, second_widths, first_stocks, second_stocks);
-    }
+    let pools = Pools {
+        first_widths,
+        second_widths,
+        first_stocks,
+        second_stocks,
+    };
+    let Some(stocks) = pools.stock_sums() else {
+        return pools.refuse_value();
+    };
     let q = sum_of_squares(first_widths) + sum_of_squares(second_widths);
-    let d = distance(stocks.first, stocks.second);
-    Amount::Value(factor(q, d))
+    let d = stocks.first.abs_diff(stocks.second);
+    Ok(factor(q, d))
 }

@@ -1,16 +1,19 @@
 -- What the tests of words say of their fields. Assumes nothing.
-use mathlib.Core.Path.{◌≡◌, refl}
+use mathlib.Core.Path.{◌≡◌, refl, ap}
 use mathlib.Core.Logic.{◌⊎◌, inl, inr, ⊎_elim}
 use mathlib.Core.Bool.{Bool, true, false, ◌&&◌, ◌||◌}
 use Prim.Native.Nat.{ℕ, ◌+◌, ◌-◌, ◌*◌, ◌≤◌, ◌<◌}
 use native.Mathlib.Omega.{arith}
 use lib.Dec.{eqb, ltb}
 use borrow.Author.Tests.{ltb-true, eqb-true, lt-ltb, le-ltb, eq-eqb, ne_eqb}
+use Rattle.std.specs.Coded.{×_prop, le_prop}
+use Rattle.std.proofs.Math.Nat.{ℕ_set}
 use Rattle.words.specs.Bits.{within}
 use Rattle.words.proofs.Fields.{field_below, field_most}
 use Rattle.words.proofs.Signed.{by_less, by_equal}
 use Rattle.words.proofs.Answers.{and_left, and_right, within_least, within_most}
-use Rattle.fields.specs.Fields.{cells_of, strata_of, horizon_of, buffer_of, warming_of, methane_of, stratum_of, conversion_of, entered_of, area_of, density_of, term_of, year_of, head_of, row_of, cell_of}
+use Rattle.fields.specs.Fields.{cells_of, strata_of, horizon_of, buffer_of, warming_of, methane_of, stratum_of, conversion_of, entered_of, area_of, density_of}
+use Rattle.fields.specs.Fields.{term_of, year_of, head_of, row_of, cell_of}
 use Rattle.fields.specs.Words.{most_cells, most_strata, most_horizon, most_buffer, most_warming, most_methane, most_depth, most_area, most_density, most_term, year_terms}
 use Rattle.fields.specs.Words.{is_size_word, is_figure_word, is_depth_word, is_area_word, is_term_word, is_above}
 use Rattle.fields.specs.Valid.{SizesWithin, HeadValid, RowValid, CellValid, Listed, TermValid, term_order}
@@ -145,3 +148,10 @@ rank_above horizon before w p q h =
     (λ (e : (eqb y z && ltb s t) ≡ true).
     rw (eqb-true y z (and_left (eqb y z) (ltb s t) e)) (higher_term z s t p.term q.term (ltb-true s t (and_right (eqb y z) (ltb s t) e))))
     (either (ltb y z) (eqb y z && ltb s t) h)
+
+-- that a term may be listed has one proof: the two cases exclude each other
+pub listed_prop : (term : ℕ) → IsProp (Listed term)
+listed_prop term (inl p) (inl q) = ap inl (ℕ_set _ _ p q)
+listed_prop term (inl p) (inr q) = absurd (omega arith)
+listed_prop term (inr p) (inl q) = absurd (omega arith)
+listed_prop term (inr p) (inr q) = ap inr (×_prop le_prop le_prop p q)

@@ -7,7 +7,7 @@ ghost use Rattle.fields.specs.Fields.{head_of, row_of, cell_of, yearly_term_of};
 ghost use Rattle.fields.specs.Words.{is_size_word, is_figure_word, is_table_word, is_depth_word, is_area_word, is_term_word, is_above};
 ghost use Rattle.fields.specs.Valid.{term_order};
 
-use words::{bits, bits_within, is_kind, signed_bits, word};
+use words::{Field, Kind};
 
 // The limits of word 0.
 pub const MOST_CELLS: u32 = 256;
@@ -33,8 +33,51 @@ const MOST_DENSITY: u32 = 2_400;
 // The highest term.
 const MOST_TERM: u32 = 8;
 
+// The fields of word 0.
+const CELLS: Field = Field { high: 27, low: 16 };
+
+const STRATA: Field = Field { high: 15, low: 8 };
+
+const HORIZON: Field = Field { high: 7, low: 0 };
+
+// Of word 1; the first is of bits that must be 0, as others below.
+const FIGURE_ZEROS: Field = Field { high: 27, low: 23 };
+
+const BUFFER: Field = Field { high: 22, low: 16 };
+
+const WARMING: Field = Field { high: 15, low: 8 };
+
+const METHANE: Field = Field { high: 7, low: 0 };
+
+// Of a word of a table.
+const DRAINAGE: Field = Field { high: 27, low: 20 };
+
+const OXIDATION: Field = Field { high: 19, low: 10 };
+
+const BURNING: Field = Field { high: 9, low: 0 };
+
+// Of a cell's two words.
+const STRATUM: Field = Field { high: 27, low: 24 };
+
+const CONVERSION: Field = Field { high: 23, low: 16 };
+
+const ENTERED: Field = Field { high: 15, low: 0 };
+
+const AREA_ZEROS: Field = Field { high: 27, low: 26 };
+
+const AREA: Field = Field { high: 25, low: 12 };
+
+const DENSITY: Field = Field { high: 11, low: 0 };
+
+// Of a term.
+const TERM: Field = Field { high: 27, low: 24 };
+
+const YEAR: Field = Field { high: 23, low: 17 };
+
+const TONNES: Field = Field { high: 16, low: 0 };
+
 // The figures of the project as a whole. The guard and the least thickness of peat are in mm.
-#[derive(Clone, Copy)]
+#[derive(Clone, Copy, Debug, PartialEq, Eq)]
 pub struct Head {
     pub cells: u32,
     pub strata: u32,
@@ -47,7 +90,7 @@ pub struct Head {
 }
 
 // The figures of a stratum's table for a year of age.
-#[derive(Clone, Copy)]
+#[derive(Clone, Copy, Debug, PartialEq, Eq)]
 pub struct Row {
     pub drainage: u32,
     pub oxidation: u32,
@@ -55,7 +98,7 @@ pub struct Row {
 }
 
 // The figures of a cell.
-#[derive(Clone, Copy)]
+#[derive(Clone, Copy, Debug, PartialEq, Eq)]
 pub struct Cell {
     pub stratum: u32,
     pub conversion: u32,
@@ -65,7 +108,7 @@ pub struct Cell {
 }
 
 // A term of a year.
-#[derive(Clone, Copy)]
+#[derive(Clone, Copy, Debug, PartialEq, Eq)]
 pub struct YearlyTerm {
     pub term: u32,
     pub year: u32,
@@ -76,28 +119,28 @@ pub struct YearlyTerm {
 pub fn is_size_word(w: u32) -> bool
     ensures { result ≡ is_size_word w }
 {
-    is_kind(w, 1)
-        & bits_within(w, 27, 16, 1, MOST_CELLS)
-        & bits_within(w, 15, 8, 1, MOST_STRATA)
-        & bits_within(w, 7, 0, 1, MOST_HORIZON)
+    Kind::Size.is_of(w)
+        & CELLS.is_within(w, 1, MOST_CELLS)
+        & STRATA.is_within(w, 1, MOST_STRATA)
+        & HORIZON.is_within(w, 1, MOST_HORIZON)
 }
 
 // Whether w is valid as word 1.
 pub fn is_figure_word(w: u32) -> bool
     ensures { result ≡ is_figure_word w }
 {
-    is_kind(w, 2)
-        & (bits(w, 27, 23) == 0)
-        & bits_within(w, 22, 16, 0, MOST_BUFFER)
-        & bits_within(w, 15, 8, 1, MOST_WARMING)
-        & bits_within(w, 7, 0, 0, MOST_METHANE)
+    Kind::Figure.is_of(w)
+        & (FIGURE_ZEROS.of(w) == 0)
+        & BUFFER.is_within(w, 0, MOST_BUFFER)
+        & WARMING.is_within(w, 1, MOST_WARMING)
+        & METHANE.is_within(w, 0, MOST_METHANE)
 }
 
 // Whether w is valid as a word of a table.
 pub fn is_table_word(w: u32) -> bool
     ensures { result ≡ is_table_word w }
 {
-    is_kind(w, 3)
+    Kind::Table.is_of(w)
 }
 
 // The bits in which w differs from the word of a table with all values 0: bits 31 to 28 are 0 where w is
@@ -105,43 +148,43 @@ pub fn is_table_word(w: u32) -> bool
 pub fn table_fault(w: u32) -> u32
     ensures { is_kind 0 result ≡ is_table_word w }
 {
-    w ^ word(3, 0)
+    w ^ Kind::Table.word(0)
 }
 
 // Whether w is valid as a cell's first word.
 pub fn is_depth_word(w: u32, strata: u32, horizon: u32) -> bool
     ensures { result ≡ is_depth_word strata horizon w }
 {
-    is_kind(w, 4)
-        & (bits(w, 27, 24) < strata)
-        & bits_within(w, 23, 16, 0, horizon)
-        & bits_within(w, 15, 0, 0, MOST_DEPTH)
+    Kind::Depth.is_of(w)
+        & (STRATUM.of(w) < strata)
+        & CONVERSION.is_within(w, 0, horizon)
+        & ENTERED.is_within(w, 0, MOST_DEPTH)
 }
 
 // Whether w is valid as a cell's second word.
 pub fn is_area_word(w: u32) -> bool
     ensures { result ≡ is_area_word w }
 {
-    is_kind(w, 5)
-        & (bits(w, 27, 26) == 0)
-        & bits_within(w, 25, 12, 1, MOST_AREA)
-        & bits_within(w, 11, 0, 1, MOST_DENSITY)
+    Kind::Area.is_of(w)
+        & (AREA_ZEROS.of(w) == 0)
+        & AREA.is_within(w, 1, MOST_AREA)
+        & DENSITY.is_within(w, 1, MOST_DENSITY)
 }
 
 // Whether w is valid as a term.
 pub fn is_term_word(w: u32, horizon: u32) -> bool
     ensures { result ≡ is_term_word horizon w }
 {
-    is_kind(w, 6)
-        & ((bits(w, 27, 24) == 1) | bits_within(w, 27, 24, 3, MOST_TERM))
-        & bits_within(w, 23, 17, 1, horizon)
+    Kind::Term.is_of(w)
+        & ((TERM.of(w) == 1) | TERM.is_within(w, 3, MOST_TERM))
+        & YEAR.is_within(w, 1, horizon)
 }
 
 // A term's place in the order of terms: by year, then by term, which has 4 bits.
 pub fn term_order(w: u32) -> u32
     ensures { result ≡ term_order w }
 {
-    bits(w, 23, 17) * 16 + bits(w, 27, 24)
+    YEAR.of(w) * 16 + TERM.of(w)
 }
 
 // Whether a term is of a later year than the one before, or of the same year and a higher term.
@@ -151,30 +194,33 @@ pub fn is_above(before: u32, w: u32) -> bool
     term_order(before) < term_order(w)
 }
 
-// The figures of words 0 and 1.
+// The figures of words 0 and 1. Head and cell are each read from two words, so that a `From` would take
+// a pair made for it.
 pub fn head_of(w: u32, v: u32) -> Head
     ensures { result ≡ head_of w v }
 {
     Head {
-        cells: bits(w, 27, 16),
-        strata: bits(w, 15, 8),
-        horizon: bits(w, 7, 0),
-        buffer: bits(v, 22, 16),
-        warming: bits(v, 15, 8),
-        methane: bits(v, 7, 0),
+        cells: CELLS.of(w),
+        strata: STRATA.of(w),
+        horizon: HORIZON.of(w),
+        buffer: BUFFER.of(v),
+        warming: WARMING.of(v),
+        methane: METHANE.of(v),
         guard: 400,
         thickness: 300,
     }
 }
 
 // The figures of a word of a table.
-pub fn row_of(w: u32) -> Row
-    ensures { result ≡ row_of w }
-{
-    Row {
-        drainage: bits(w, 27, 20),
-        oxidation: bits(w, 19, 10),
-        burning: bits(w, 9, 0),
+impl From<u32> for Row {
+    ghost from_gives = { λ w r. r ≡ row_of w };
+
+    fn from(w: u32) -> Row {
+        Row {
+            drainage: DRAINAGE.of(w),
+            oxidation: OXIDATION.of(w),
+            burning: BURNING.of(w),
+        }
     }
 }
 
@@ -183,21 +229,23 @@ pub fn cell_of(w: u32, v: u32) -> Cell
     ensures { result ≡ cell_of w v }
 {
     Cell {
-        stratum: bits(w, 27, 24),
-        conversion: bits(w, 23, 16),
-        entered: bits(w, 15, 0),
-        area: bits(v, 25, 12),
-        density: bits(v, 11, 0),
+        stratum: STRATUM.of(w),
+        conversion: CONVERSION.of(w),
+        entered: ENTERED.of(w),
+        area: AREA.of(v),
+        density: DENSITY.of(v),
     }
 }
 
 // The figures of a term's word.
-pub fn yearly_term_of(w: u32) -> YearlyTerm
-    ensures { result ≡ yearly_term_of w }
-{
-    YearlyTerm {
-        term: bits(w, 27, 24),
-        year: bits(w, 23, 17),
-        tonnes: signed_bits(w, 16, 0),
+impl From<u32> for YearlyTerm {
+    ghost from_gives = { λ w t. t ≡ yearly_term_of w };
+
+    fn from(w: u32) -> YearlyTerm {
+        YearlyTerm {
+            term: TERM.of(w),
+            year: YEAR.of(w),
+            tonnes: TONNES.signed_of(w),
+        }
     }
 }

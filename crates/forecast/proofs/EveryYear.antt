@@ -6,9 +6,7 @@ use Prim.Native.Nat.{ℕ, zero-le, ◌+◌, ◌*◌, ◌≤◌, ◌<◌}
 use native.Mathlib.Omega.{arith}
 use lib.ListN.{length, get_or}
 use borrow.Author.Tests.{leb-true}
-use Rattle.words.specs.Answers.{Answer, outcome}
-use Rattle.words.specs.declared.Outcome.{Outcome}
-use Rattle.words.specs.declared.Outcome.TheVariants.{Done}
+use Rattle.words.specs.Answers.{Answer, accepted}
 use Rattle.words.proofs.Answers.{need_accepted, after_accepted}
 use Rattle.words.specs.Effect.{written}
 use Rattle.words.proofs.Blocks.{filled_word, filled_behind}
@@ -43,7 +41,8 @@ module _ (l b : List ℕ) (fits : (fitted l b).done ≡ true) where
       closes l (after t) (length y) (closable_before l (after t) (length y) capacity (omega (arith, held.year_is)) held.admits)
 
   -- x is an output whose numbers are the years' kg
-  year_closes : (x : List ℕ) → ((t : ℕ) → t < horizon l → get_or x t 0 ≡ year_kg l (after t)) → (y : List ℕ) → line_words * cells l ≤ length y → (t : ℕ) → t < horizon l → Closes l (open_book l b) x t y
+  year_closes : (x : List ℕ) → ((t : ℕ) → t < horizon l → get_or x t 0 ≡ year_kg l (after t)) → (y : List ℕ) → line_words * cells l ≤ length y →
+      (t : ℕ) → t < horizon l → Closes l (open_book l b) x t y
   unfolding close_effect after_closings year_kg
   year_closes x number y capacity t lt =
       let done = year_done y capacity t lt in
@@ -93,12 +92,12 @@ output_beyond l b x k le =
     (λ done. filled_behind 1 x 0 _ (λ t. refl) zero-le (horizon l) k (omega arith))
     (λ refused. refl)
 
--- ---- a forecast whose tests answered `Done`: what its years are given
+-- ---- a forecast whose tests were passed: what its years are given
 
-module _ (l b : List ℕ) (capacity : ℕ) (v : Outcome) (e : outcome v ≡ forecast_answer l b capacity) (d : v ≡ Done) where
+module _ (l b : List ℕ) (capacity : ℕ) (x : ℕ) (e : accepted x ≡ forecast_answer l b capacity) where
   passed : ((fitted l b).done ≡ true) × ((output_checked l capacity).done ≡ true)
   unfolding forecast_answer
-  passed = after_accepted _ _ (ap (λ (a : Answer). a.done) (sym e ∙ ap outcome d))
+  passed = after_accepted _ _ (ap (λ (a : Answer). a.done) (sym e))
 
   pub forecast_fits : (fitted l b).done ≡ true
   forecast_fits = passed.0

@@ -1,22 +1,26 @@
 -- The forecast's loops: what an iteration is given and leaves. Assumes nothing.
 use mathlib.Core.Path.{◌≡◌, refl, sym, ap, ◌∙◌}
-use mathlib.Core.List.{List, [], ◌∷◌}
-use Prim.Native.Nat.{ℕ, zero-le, ◌+◌, ◌-◌, ◌*◌, ◌^◌, ◌≤◌, ◌<◌}
+use mathlib.Core.List.{List, [], ◌∷◌, ◌++◌}
+use Prim.Native.Nat.{ℕ, zero, suc, zero-le, ◌+◌, ◌-◌, ◌*◌, ◌^◌, ◌≤◌, ◌<◌}
 use native.Mathlib.Nat.{add-zero, le_antisymm}
+use native.Mathlib.Numerals.{add-one}
 use native.Mathlib.Omega.{arith}
 use lib.Dec.{eqb}
-use lib.ListN.{length, get_or, set, take, drop}
+use lib.ListN.{length, get_or, set, take, drop, replicate}
+use lib.Seq.{length-take-le}
 use borrow.Rule.Slice.PartMut.{put_mid}
-use Rattle.words.specs.Blocks.{filled}
+use Rattle.std.proofs.lemmas.List.{replicate_more}
+use Rattle.words.specs.Blocks.{blocks, filled}
 use Rattle.words.specs.Sums.{sum_below}
 use Rattle.words.proofs.Blocks.{Filling, filling_none, filling_lent_length, filling_next, filling_stored, filling_all, filled_behind, filled_word, length_filled}
 use Rattle.words.proofs.Blocks.{filled_same, filled_again, filled_own}
 use Rattle.words.proofs.Signed.{by_test}
 use Rattle.words.proofs.Sums.{sum_none, sum_next, sum_most}
-use Rattle.fields.specs.declared.Head.{Head}
 use Rattle.fields.specs.declared.Cell.{Cell}
 use Rattle.listing.specs.Layout.{head, cells, horizon, row, cell}
 use Rattle.listing.specs.Accepted.{Accepted}
+use Rattle.listing.specs.declared.Listing.{Listing}
+use Rattle.listing.proofs.Accepted.{listing_horizon}
 use Rattle.year.specs.Year.{kg_of, year_loss, most_line, opened, after_loss}
 use Rattle.year.specs.declared.Entry.{Entry}
 use Rattle.year.specs.declared.Loss.{Loss}
@@ -54,72 +58,76 @@ years_before_most : (plan horizon : ℕ) → plan ≤ horizon → years_before_c
 unfolding years_before_conversion
 years_before_most plan horizon le = by_test (λ (n : ℕ). n ≤ horizon) (eqb plan 0) horizon (plan - 1) (λ e. omega arith) (λ e. omega arith)
 
--- h is the head that was read, and c the cell
-module _ {l : List ℕ} {h : Head} {i : ℕ} {d : List ℕ} (g : Running l h i d) {c : Cell} (c_is : c ≡ cell l i) where
-  -- the first t years: the cell is inactive in them
-  pub ran_unconverted : {t : ℕ} {e : Entry} → e ≡ opened c.conversion → t ≡ years_before_conversion c.conversion h.horizon → Ran l i d t e 0 d
-  unfolding entries_after
-  ran_unconverted {t} e_is t-is =
-      let t_is_before : t ≡ years_before_conversion (cell l i).conversion (horizon l) = rw (g.head_is, c_is) at t-is in
-      let within = years_before_most (cell l i).conversion (horizon l) (g.accepted.cell_valid i g.in_listing).conversion in
-      let still = inactive_opened l i t (omega arith) in
-      let enough = g.enough in
-      record {
-        entry_is = e_is ∙ (rw c_is still);
-        kg_is = rw (← still) (sym (emission_none (head l) (cell l i)));
-        output =
-            record {
-              sized = λ u. refl;
-              capacity = omega arith;
-              at_most = omega arith;
-              length_is = refl;
-              is = filled_own d _ (λ u. refl) t (omega arith) (λ u lt. rw (inactive_no_loss l i u (omega arith), add-zero));
-            };
-      }
+-- v is the listing, and c the cell that was read
+module _ (v : Listing) where
+  abbrev words : List ℕ
+  words = v.words.now
 
-  -- the iteration of year t + 1
-  module _ {t : ℕ} {e : Entry} {k : ℕ} {x : List ℕ} (r : Ran l i d t e k x) (lt : t < horizon l) where
-    pub iteration_kg : k ≡ kg_of h c e
-    iteration_kg = rw (g.head_is, c_is, r.entry_is) r.kg_is
+  a : Accepted words
+  a = v.accepted
 
-    pub iteration_cell_year : CellYear l h c e (t + 1)
-    iteration_cell_year =
-        rw (c_is, r.entry_is)
-        (record {
-          accepted = g.accepted;
-          head_is = g.head_is;
-          cell_valid = g.accepted.cell_valid i g.in_listing;
-          entry_valid = after_valid g.accepted i g.in_listing t;
-          in_time = (omega arith, omega arith);
-        })
+  module _ {i : ℕ} {d : List ℕ} (g : Running words i d) {c : Cell} (c_is : c ≡ cell words i) where
+    -- the first t years: the cell is inactive in them
+    pub ran_unconverted : {t : ℕ} {e : Entry} → e ≡ opened c.conversion → t ≡ years_before_conversion c.conversion v.figures.horizon → Ran words i d t e 0 d
+    unfolding entries_after
+    ran_unconverted {t} e_is t-is =
+        let t_is_before : t ≡ years_before_conversion (cell words i).conversion (horizon words) = rw (listing_horizon v, c_is) at t-is in
+        let within = years_before_most (cell words i).conversion (horizon words) (a.cell_valid i g.in_listing).conversion in
+        let still = inactive_opened words i t (omega arith) in
+        let enough = g.enough in
+        record {
+          entry_is = e_is ∙ (rw c_is still);
+          kg_is = rw (← still) (sym (emission_none (head words) (cell words i)));
+          output =
+              record {
+                sized = λ u. refl;
+                capacity = omega arith;
+                at_most = omega arith;
+                length_is = refl;
+                is = filled_own d _ (λ u. refl) t (omega arith) (λ u lt. rw (inactive_no_loss words i u (omega arith), add-zero));
+              };
+        }
 
-    -- s is the loss that was answered
-    module _ {s : Loss} (s_is : s ≡ year_loss (head l) (row l) c e (t + 1)) where
-      answered : s ≡ loss_in l i t
-      answered = rw (c_is, r.entry_is) at s_is
+    -- the iteration of year t + 1
+    module _ {t : ℕ} {e : Entry} {k : ℕ} {x : List ℕ} (r : Ran words i d t e k x) (before : t < v.figures.horizon) where
+      lt : t < horizon words
+      lt = omega (arith, listing_horizon v, before)
 
-      pub iteration_storable : Storable (after_loss e s)
-      iteration_storable = rw s_is (cell_year_storable iteration_cell_year)
+      pub iteration_kg : k ≡ kg_of (head words) c e
+      iteration_kg = rw (c_is, r.entry_is) r.kg_is
 
-      after_loss_is : after_loss e s ≡ entries_after l (t + 1) i
-      after_loss_is = rw (answered, r.entry_is) (after_next l i t)
+      pub iteration_cell_year : CellYear words c e (t + 1)
+      iteration_cell_year =
+          rw (c_is, r.entry_is)
+          (record { cell_valid = a.cell_valid i g.in_listing; entry_valid = after_valid a i g.in_listing t; in_time = (omega arith, omega (arith, lt)) })
 
-      -- the kg to date with the year's
-      then_is : k + s.kg ≡ kg_of (head l) (cell l i) (entries_after l (t + 1) i)
-      then_is = rw (answered, r.kg_is) (year_kg_lem (head l) (row l) (cell l i) (entries_after l t i) (t + 1)) ∙ ap (kg_of (head l) (cell l i)) (after_next l i t)
+      -- s is the loss that was answered
+      module _ {s : Loss} (s_is : s ≡ year_loss (head words) (row words) c e (t + 1)) where
+        answered : s ≡ loss_in words i t
+        answered = rw (c_is, r.entry_is) at s_is
 
-      pub iteration_kg_fits : k + s.kg < 2 ^ 32
-      iteration_kg_fits = omega (arith, then_is, emission_most (entry_fit l i (entries_after l (t + 1) i) g.accepted g.in_listing (after_valid g.accepted i g.in_listing (t + 1))))
+        pub iteration_storable : Storable (after_loss e s)
+        iteration_storable = rw s_is (cell_year_storable a iteration_cell_year)
 
-      -- the year's number, untouched so far
-      untouched : get_or x t 0 ≡ get_or d t 0
-      untouched = rw r.output.is (filled_behind 1 d 0 (λ t. (get_or d t 0 + (loss_in l i t).kg) ∷ []) (λ i. refl) zero-le t t (omega arith))
+        after_loss_is : after_loss e s ≡ entries_after words (t + 1) i
+        after_loss_is = rw (answered, r.entry_is) (after_next words i t)
 
-      pub iteration_fits : get_or x t 0 + s.kg < 2 ^ 64
-      iteration_fits = rw (untouched, answered) (omega (arith, g.small t lt, kg_most g.accepted i t g.in_listing))
+        -- the kg to date with the year's
+        then_is : k + s.kg ≡ kg_of (head words) (cell words i) (entries_after words (t + 1) i)
+        then_is = rw (answered, r.kg_is) (year_kg_lem (head words) (row words) (cell words i) (entries_after words t i) (t + 1)) ∙ ap (kg_of (head words) (cell words i)) (after_next words i t)
 
-      pub ran_next : {e' : Entry} → e' ≡ after_loss e s → Ran l i d (t + 1) e' (k + s.kg) (set x t (get_or x t 0 + s.kg))
-      ran_next e_is = record { entry_is = e_is ∙ after_loss_is; kg_is = then_is; output = filling_stored r.output lt t (omega arith) (get_or x t 0 + s.kg) (rw (untouched, answered)) }
+        pub iteration_kg_fits : k + s.kg < 2 ^ 32
+        iteration_kg_fits = omega (arith, then_is, emission_most (entry_fit words i (entries_after words (t + 1) i) a g.in_listing (after_valid a i g.in_listing (t + 1))))
+
+        -- the year's number, untouched so far
+        untouched : get_or x t 0 ≡ get_or d t 0
+        untouched = rw r.output.is (filled_behind 1 d 0 (λ t. (get_or d t 0 + (loss_in words i t).kg) ∷ []) (λ i. refl) zero-le t t (omega arith))
+
+        pub iteration_fits : get_or x t 0 + s.kg < 2 ^ 64
+        iteration_fits = rw (untouched, answered) (omega (arith, g.small t lt, kg_most a i t g.in_listing))
+
+        pub ran_next : {e' : Entry} → e' ≡ after_loss e s → Ran words i d (t + 1) e' (k + s.kg) (set x t (get_or x t 0 + s.kg))
+        ran_next e_is = record { entry_is = e_is ∙ after_loss_is; kg_is = then_is; output = filling_stored r.output lt t (omega arith) (get_or x t 0 + s.kg) (rw (untouched, answered)) }
 
 pub ran_all : {l : List ℕ} {i : ℕ} {d : List ℕ} {t : ℕ} {e : Entry} {k : ℕ} {x : List ℕ} → Ran l i d t e k x → horizon l ≤ t → (e ≡ entries_after l (horizon l) i) × (x ≡ added_years l i d)
 unfolding added_years
@@ -163,12 +171,10 @@ module _ {l b d : List ℕ} (ready : Ready l b (length d)) where
 
   -- the iteration of cell i
   module _ {i : ℕ} {y x : List ℕ} (r : Progress l b d i y x) (lt : i < cells l) where
-    pub iteration_running : {h : Head} → h ≡ head l → Running l h i x
-    iteration_running h-is =
+    pub iteration_running : Running l i x
+    iteration_running =
         let a = ready.fitted.accepted in
         record {
-          accepted = a;
-          head_is = h-is;
           in_listing = lt;
           enough = omega (arith, ready.enough, r.output_length);
           small = λ t in_time. rw (r.output_is, number_is l d i t in_time) (omega (arith, year_sum_most a t i r.book.at_most, r.book.at_most, a.head_valid.cells));
@@ -193,15 +199,25 @@ pub progress_all : {l b d : List ℕ} {i : ℕ} {y x : List ℕ} → Progress l 
 unfolding ran_cells
 progress_all r le = (filling_all r.book le, rw (le_antisymm r.book.at_most le) at r.output_is)
 
--- ---- before the first cell: zeros were written over the numbers of d, and x is the output then
+-- ---- before the first cell: zeros were written over the first n numbers of d
 
-module _ (l d : List ℕ) {x : List ℕ} {n : ℕ} (n_is : n ≡ horizon l) (x_is : x ≡ filled 1 d 0 (λ t. 0 ∷ []) n) where
-  cleared : x ≡ ran_output l d 0
+zero_blocks : (n : ℕ) → replicate n 0 ≡ blocks (λ t. 0 ∷ []) n
+zero_blocks zero = refl
+zero_blocks (suc n) = ap (λ (m : ℕ). replicate m 0) (sym (add-one n)) ∙ sym (replicate_more n 0) ∙ ap (λ (x : List ℕ). x ++ 0 ∷ []) (zero_blocks n)
+
+module _ {l : List ℕ} (d : List ℕ) {b : List ℕ} (r : Ready l b (length d)) {n : ℕ} (n_is : n ≡ horizon l) {zeros : List ℕ} (zeros_is : zeros ≡ replicate (length (take n d)) 0) where
+  zeros_filled : zeros ++ drop n d ≡ filled 1 d 0 (λ t. 0 ∷ []) (horizon l)
+  unfolding filled
+  zeros_filled =
+      let e : 0 + 1 * horizon l ≡ horizon l = omega arith in
+      rw (zeros_is, n_is, length-take-le (horizon l) d r.enough, zero_blocks (horizon l), e)
+
+  cleared : zeros ++ drop n d ≡ ran_output l d 0
   unfolding ran_output
-  cleared = (rw n_is at x_is) ∙ filled_same 1 d 0 _ _ (horizon l) (λ t lt. ap (λ (m : ℕ). m ∷ []) (sum_none (λ i. (loss_in l i t).kg)))
+  cleared = zeros_filled ∙ filled_same 1 d 0 _ _ (horizon l) (λ t lt. ap (λ (m : ℕ). m ∷ []) (sum_none (λ i. (loss_in l i t).kg)))
 
-  pub clear_ready : {b : List ℕ} → Ready l b (length d) → Ready l b (length x) × (x ≡ ran_output l x 0)
-  clear_ready r = rw cleared (record { fitted = r.fitted; enough = rw (output_sized l d 0 r.enough) r.enough }, sym (output_again l d 0 0))
+  pub clear_ready : Ready l b (length (zeros ++ drop n d)) × (zeros ++ drop n d ≡ ran_output l (zeros ++ drop n d) 0)
+  clear_ready = rw cleared (record { fitted = r.fitted; enough = rw (output_sized l d 0 r.enough) r.enough }, sym (output_again l d 0 0))
 
-  pub clear_all : {y : List ℕ} → y ≡ ran_output l x (cells l) → y ≡ ran_output l d (cells l)
+  pub clear_all : {y : List ℕ} → y ≡ ran_output l (zeros ++ drop n d) (cells l) → y ≡ ran_output l d (cells l)
   clear_all y-is = rw (cleared, output_again l d 0 (cells l)) at y-is

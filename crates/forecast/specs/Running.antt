@@ -1,11 +1,9 @@
 -- How the forecast is worked out: a cell's loss depends on its own entry alone, so each cell runs through all years by itself.
 -- proofs/Running.antt proves that the closings of an opened book come to this.
-use Rattle.std.specs.Prelude.{◌≡◌, cond, List, [], ◌∷◌, ℕ, ◌+◌, ◌-◌, ◌^◌, ◌≤◌, ◌<◌, eqb, length, get_or}
+use Rattle.std.specs.Prelude.{cond, List, [], ◌∷◌, ℕ, ◌+◌, ◌-◌, ◌^◌, ◌≤◌, ◌<◌, eqb, length, get_or}
 use Rattle.words.specs.Blocks.{filled}
 use Rattle.words.specs.Sums.{sum_below}
-use Rattle.fields.specs.declared.Head.{Head}
-use Rattle.listing.specs.Layout.{head, cells, horizon}
-use Rattle.listing.specs.Accepted.{Accepted}
+use Rattle.listing.specs.Layout.{cells, horizon}
 use Rattle.book.specs.Current.{current, held_at, Fitted}
 use Rattle.years.specs.Years.{entries_after, loss_in}
 
@@ -25,10 +23,8 @@ added_years l i x = filled 1 x 0 (λ t. (get_or x t 0 + (loss_in l i t).kg) ∷ 
 unfoldable pub ran_output : List ℕ → List ℕ → ℕ → List ℕ
 ran_output l x n = filled 1 x 0 (λ t. sum_below (λ i. (loss_in l i t).kg) n ∷ []) (horizon l)
 
--- what a cell's years are given: h is the listing's head, and no number of the output x is near its greatest
-pub record Running (l : List ℕ) (h : Head) (i : ℕ) (x : List ℕ) : Type 0 where
-  pub accepted : Accepted l
-  pub head_is : h ≡ head l
+-- what a cell's years are given: no number of the output x is near its greatest
+pub record Running (l : List ℕ) (i : ℕ) (x : List ℕ) : Type 0 where
   pub in_listing : i < cells l
   pub enough : horizon l ≤ length x
   pub small : (t : ℕ) → t < horizon l → get_or x t 0 < 2 ^ 63

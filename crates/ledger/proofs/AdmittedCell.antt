@@ -6,17 +6,18 @@ use Prim.Native.Nat.{ℕ, ◌^◌, ◌≤◌, ◌<◌}
 use native.Mathlib.Omega.{arith}
 use lib.Dec.{eqb, ltb, leb}
 use borrow.Author.Tests.{lt-ltb, leb-true, ltb-true, eqb-true}
-use Rattle.words.specs.Answers.{Answer, accepted, refused, outcome}
-use Rattle.words.specs.Refusals.{no_such_cell}
-use Rattle.words.specs.declared.Outcome.{Outcome}
-use Rattle.words.specs.declared.Outcome.TheVariants.{Done, Refused}
+use Rattle.std.specs.Prelude.{Result}
+use Rattle.std.specs.Result.{IsErrAnd}
+use Rattle.std.proofs.lemmas.Result.{err_from_is_err_and}
+use Rattle.words.specs.Answers.{Answer, accepted, refused}
+use Rattle.words.specs.Refusals.{number_of, no_such_cell}
 use Rattle.words.specs.declared.Refusal.{Refusal}
 use Rattle.words.proofs.Answers.{need_accepted, after_accepted, need_is, after_is, and_right}
 use Rattle.listing.specs.Layout.{cells, horizon}
 use Rattle.book.specs.Current.{current, admitted}
 use Rattle.book.specs.Layout.{year}
 use Rattle.book.proofs.AcceptedBook.{shaped, accepted_book, accepted_book_cell}
-use Rattle.ledger.specs.Calls.{cell_checked, admitted_cell, admitted_unwithdrawn, ahead, plan_checked, replan_answer, StatementAnswer, no_figures, figures_of, statement_answer}
+use Rattle.ledger.specs.Calls.{cell_checked, admitted_cell, admitted_unwithdrawn, ahead, plan_checked, replan_answer, StatementAnswer, figures_of, stated, statement_answer}
 use Rattle.ledger.specs.declared.CellFigures.{CellFigures}
 use Rattle.ledger.specs.AdmittedCell.{AdmittedCell}
 
@@ -65,30 +66,27 @@ module _ (l b : List ℕ) (i : ℕ) where
       let h₃ = need_accepted _ _ _ _ h₂.1 in
       (unwithdrawn_accepted h₁.0, ahead_most y h₃.0)
 
-  -- ---- what a statement answers, by the outcome o of its tests
+  -- ---- the same by the answers
 
-  module _ (o : Outcome) (e : outcome o ≡ admitted_cell l b i) where
-    pub statement_done : o ≡ Done → (s : CellFigures) → s ≡ figures_of l b i → ◌≡◌ {A = StatementAnswer} (record { answer = accepted 0; figures = s }) (statement_answer l b i)
-    unfolding statement_answer
-    statement_done d s q = rw (sym e ∙ ap outcome d, q)
+  pub admitted_cell_by : (x : ℕ) → accepted x ≡ admitted_cell l b i → AdmittedCell l b i
+  admitted_cell_by x e = admitted_cell_accepted (ap (λ (a : Answer). a.done) (sym e))
 
-    pub statement_refused : (r : Refusal) → o ≡ Refused r → ◌≡◌ {A = StatementAnswer} (record { answer = refused r.number r.place; figures = no_figures }) (statement_answer l b i)
-    unfolding statement_answer
-    statement_refused r d = rw (sym e ∙ ap outcome d)
+  pub unwithdrawn_by : (x : ℕ) → accepted x ≡ admitted_unwithdrawn l b i → AdmittedCell l b i
+  unwithdrawn_by x e = unwithdrawn_accepted (ap (λ (a : Answer). a.done) (sym e))
 
-  -- the same where the tests answered `Done`
-  module _ (v : Outcome) where
-    accepted_by : (a : Answer) → outcome v ≡ a → v ≡ Done → a.done ≡ true
-    accepted_by a e d = ap (λ (a : Answer). a.done) (sym e ∙ ap outcome d)
+  pub replan_by : (x y : ℕ) → accepted x ≡ replan_answer l b i y → AdmittedCell l b i × (y < 2 ^ 8)
+  replan_by x y e =
+      let (r, le) = replan_accepted y (ap (λ (a : Answer). a.done) (sym e)) in
+      let most = r.accepted_book.fitted.accepted.head_valid.horizon.1 in
+      (r, omega arith)
 
-    pub admitted_cell_done : outcome v ≡ admitted_cell l b i → v ≡ Done → AdmittedCell l b i
-    admitted_cell_done e d = admitted_cell_accepted (accepted_by (admitted_cell l b i) e d)
+  -- ---- what a statement answers
 
-    pub unwithdrawn_done : outcome v ≡ admitted_unwithdrawn l b i → v ≡ Done → AdmittedCell l b i
-    unwithdrawn_done e d = unwithdrawn_accepted (accepted_by (admitted_unwithdrawn l b i) e d)
+  pub statement_passed : (x : ℕ) → accepted x ≡ admitted_cell l b i → (s : CellFigures) → s ≡ figures_of l b i →
+      ◌≡◌ {A = StatementAnswer} (record { answer = accepted x; figures = s }) (statement_answer l b i)
+  unfolding statement_answer
+  statement_passed x e s q = rw (← e, q)
 
-    pub replan_done : (y : ℕ) → outcome v ≡ replan_answer l b i y → v ≡ Done → AdmittedCell l b i × (y < 2 ^ 8)
-    replan_done y e d =
-        let (r, le) = replan_accepted y (accepted_by (replan_answer l b i y) e d) in
-        let most = r.accepted_book.fitted.accepted.head_valid.horizon.1 in
-        (r, omega arith)
+  pub statement_refused : (v : Result CellFigures Refusal) (r : Refusal) → IsErrAnd v (λ d. d ≡ r) → refused (number_of r.reason) r.place ≡ admitted_cell l b i → stated v ≡ statement_answer l b i
+  unfolding statement_answer
+  statement_refused v r is e = let p = err_from_is_err_and v is in rw (p.1, p.2, ← e)

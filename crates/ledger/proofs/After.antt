@@ -42,7 +42,8 @@ closed_holds l b x h =
     (year_holds l b (length x) (closable l b (length x) h))
 
 pub closed_line : (l b x : List ℕ) → (close_effect l b x).answer.done ≡ true → (i : ℕ) → i < cells l →
-    (oxidised_line (close_effect l b x).output i ≡ (loss l b i).oxidised) × (burned_line (close_effect l b x).output i ≡ (loss l b i).burned) × (kg_line (close_effect l b x).output i ≡ (loss l b i).kg)
+    (oxidised_line (close_effect l b x).output i ≡ (loss l b i).oxidised) × (burned_line (close_effect l b x).output i ≡ (loss l b i).burned)
+    × (kg_line (close_effect l b x).output i ≡ (loss l b i).kg)
 unfolding close_effect
 closed_line l b x h i lt =
     let same = written_new (close_answer l b (length x)) x (lines_after l b x) h in

@@ -1,8 +1,9 @@
 -- Document 01, "Book and calls": what each call on a listing l and a book b answers, and what it leaves in the slices lent to it.
-use Rattle.std.specs.Prelude.{◌≡◌, ℕ, ◌+◌, ◌*◌, ◌≤◌, Bool, false, cond, not, ◌&&◌, ◌||◌, List, [], leb, ltb, eqb, length, get_or}
+use Rattle.std.specs.Prelude.{◌≡◌, ℕ, ◌+◌, ◌*◌, ◌≤◌, Bool, false, cond, not, ◌&&◌, ◌||◌, List, [], leb, ltb, eqb, length, get_or, Result, Ok, Err}
 use Rattle.words.specs.Answers.{Answer, accepted, refused, need, after}
 use Rattle.words.specs.Effect.{Effect, commit, commit_both}
-use Rattle.words.specs.Refusals.{no_such_cell, cell_withdrawn, cell_converted, year_not_ahead}
+use Rattle.words.specs.Refusals.{number_of, no_such_cell, cell_withdrawn, cell_converted, year_not_ahead}
+use Rattle.words.specs.declared.Refusal.{Refusal}
 use Rattle.listing.specs.Layout.{cells, horizon, cell}
 use Rattle.year.specs.Year.{unconverted, remaining, planned, marked}
 use Rattle.book.specs.Current.{book_size, issued, entry, kg_to_date, with_issued, with_plan, fitted, admitted}
@@ -11,8 +12,6 @@ use Rattle.balance.specs.Balance.{tonnes_due}
 use Rattle.opening.specs.Opening.{open_book}
 use Rattle.closing.specs.Closing.{book_after, lines_after, close_answer}
 use Rattle.ledger.specs.declared.CellFigures.{CellFigures}
-use Rattle.ledger.specs.declared.Stated.{Stated}
-use Rattle.ledger.specs.declared.Stated.TheVariants as state
 
 -- ---- open: year 0, 0 issued, plan years of the listing, nothing withdrawn, zeros
 
@@ -93,9 +92,9 @@ abbrev pub no_figures : CellFigures
 no_figures = record { entered = 0; remaining = 0; oxidised = 0; burned = 0; kg = 0; plan_year = 0; withdrawn = false }
 
 -- the cases of the answer
-abbrev pub stated : Stated → StatementAnswer
-stated (state.Value a) = record { answer = accepted 0; figures = a }
-stated (state.Refused r) = record { answer = refused r.number r.place; figures = no_figures }
+abbrev pub stated : Result CellFigures Refusal → StatementAnswer
+stated (Ok a) = record { answer = accepted 0; figures = a }
+stated (Err r) = record { answer = refused (number_of r.reason) r.place; figures = no_figures }
 
 -- the figures of cell i: remaining depth and kg to date follow from O and B
 unfoldable pub figures_of : List ℕ → List ℕ → ℕ → CellFigures

@@ -7,8 +7,8 @@ use native.Mathlib.Nat.{mul-le-mul, lt_of_not-le}
 use native.Mathlib.Omega.{arith}
 use lib.ListN.{length, get_or}
 use borrow.Author.Tests.{leb-true, eq-eqb, ne_eqb}
-use Rattle.words.specs.declared.Outcome.{Outcome}
-use Rattle.words.specs.declared.Outcome.TheVariants.{Done}
+use Rattle.std.specs.Prelude.{Result, Ok}
+use Rattle.words.specs.declared.Refusal.{Refusal}
 use Rattle.words.specs.Answers.{Answer, outcome}
 use Rattle.words.proofs.Steps.{row_within}
 use Rattle.words.proofs.Answers.{need_accepted, need_all_accepted}
@@ -21,6 +21,7 @@ use Rattle.listing.specs.Layout.{least_words, cell_words, most_term_words, head,
 use Rattle.listing.specs.Check.{is_cell_word, words_checked, later_checked, checked}
 use Rattle.listing.specs.Accepted.{Contiguous, Accepted}
 use Rattle.listing.specs.declared.Offsets.{Offsets}
+use Rattle.listing.specs.declared.Listing.{Listing}
 
 -- ---- the head
 
@@ -118,9 +119,9 @@ accepted l h =
       words_at_most = count_at_most l (horizon l) (offsets l).terms term h₈.0;
     }
 
--- the same where the call answered `Done`
-pub accepted_done : (l : List ℕ) (v : Outcome) → outcome v ≡ checked l → v ≡ Done → Accepted l
-accepted_done l v e d = accepted l (ap (λ (a : Answer). a.done) (sym e ∙ ap outcome d))
+-- the same where the call was accepted
+pub accepted_done : {A : Type 0} (l : List ℕ) (v : Result A Refusal) (x : A) → outcome v ≡ checked l → v ≡ Ok x → Accepted l
+accepted_done l v x e d = accepted l (ap (λ (a : Answer). a.done) (sym e ∙ ap outcome d))
 
 -- of all years
 pub terms_at_most : (l : List ℕ) → Accepted l → length l ≤ (offsets l).terms + most_term_words
@@ -172,3 +173,12 @@ module _ (l : List ℕ) (h : Head) (s : Offsets) (e : h ≡ head l) (f : s ≡ o
   -- the terms end with the listing
   pub terms_by : (s.terms ≡ (offsets l).terms) × (s.terms ≤ length l) × (length l ≤ s.terms + most_term_words)
   terms_by = rw offsets_by (refl, a.long, terms_at_most l a)
+
+-- ---- a listing as a value of the code, by its ghost fields
+
+module _ (l : Listing) where
+  pub listing_cells : l.figures.cells ≡ cells l.words.now
+  listing_cells = ap (λ (h : Head). h.cells) l.is_head
+
+  pub listing_horizon : l.figures.horizon ≡ horizon l.words.now
+  listing_horizon = ap (λ (h : Head). h.horizon) l.is_head

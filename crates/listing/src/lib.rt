@@ -1,18 +1,18 @@
-// A project's listing: whether it is valid, and where its words are.
+// A project's listing: whether it is accepted, and where its words are.
 #![tactic(auto)]
 
-ghost use Rattle.std.specs.Prelude.{◌≡◌, true, ◌+◌, ◌*◌, ◌<◌, ◌≤◌, length};
+ghost use Rattle.std.specs.Prelude.{◌≡◌, true, ◌+◌, ◌*◌, ◌<◌, ◌≤◌, length, IfOk};
 ghost use Rattle.words.specs.Search.{first_invalid};
 ghost use Rattle.words.specs.Answers.{outcome};
 ghost use Rattle.fields.specs.Valid.{SizesWithin};
-ghost use Rattle.listing.specs.Layout.{least_words, head, cells, strata, horizon, offsets_of, row_at, row, cell_at, cell};
+ghost use Rattle.listing.specs.Layout.{least_words, cell_words, head, cells, strata, horizon, offsets_of, row_at, row, cell_at, cell};
 ghost use Rattle.listing.specs.Check.{is_cell_word, table_word_valid, cell_word_valid, term_word_valid, term_above, words_checked, later_checked, checked};
 ghost use Rattle.listing.specs.Accepted.{Contiguous, Accepted};
+ghost use Rattle.std.proofs.Props.{props};
+ghost use Rattle.fields.proofs.Valid.{listed_prop};
 
 use fields::{Cell, Head, MOST_CELLS, MOST_HORIZON, MOST_STRATA, Row};
-use words::{
-    HEAD_WORD, LATER_WORD, LISTING_SHORT, Outcome, TERM_NOT_ABOVE, TOO_FEW_WORDS, is_kind, refuse,
-};
+use words::{KIND, Reason, Refusal, first_invalid, refuse};
 
 // The words that every listing has.
 const LEAST_WORDS: usize = 2;
@@ -31,14 +31,24 @@ pub const MOST_WORDS: usize = TABLES_AT
     + CELL_WORDS * MOST_CELLS as usize
     + YEAR_TERMS * MOST_HORIZON as usize;
 
-// Where the parts of a listing begin.
+// A listing that is accepted, and the figures of its head, which are read once.
 #[derive(Clone, Copy)]
+pub struct Listing<'a> {
+    pub words: &'a [u32],
+    pub figures: Head,
+    pub ghost accepted: { Accepted words.now } by { Prim.hlevel (props, listed_prop) },
+    pub ghost is_head: { figures ≡ head words.now },
+}
+
+// Where the parts of a listing begin.
+#[derive(Clone, Copy, Debug, PartialEq, Eq)]
 pub struct Offsets {
     pub tables: usize,
     pub cells: usize,
     pub terms: usize,
 }
 
+// A cell's two words alternate: which it is, its place says.
 #[tactic(auto, using(crate::proofs::Accepted::offset_depth, crate::proofs::Accepted::not_depth))]
 fn is_cell_word(w: u32, strata: u32, horizon: u32, offset: usize) -> bool
     ensures { result ≡ is_cell_word strata horizon offset w }
@@ -50,17 +60,16 @@ fn is_cell_word(w: u32, strata: u32, horizon: u32, offset: usize) -> bool
 }
 
 // Whether every word of the tables is valid: without a branch for each word, since most listings are.
+// Places are those of the whole listing, here and below, as a refusal names them.
 fn tables_valid(listing: &[u32], start: usize, end: usize) -> bool
     requires { (start ≤ end) × (end ≤ length listing.now) }
     ensures { result ≡ true → end ≡ first_invalid (table_word_valid listing.now) start end }
 {
     let mut faults: u32 = 0;
-    let mut at = start;
-    while at < end {
-        faults = faults | fields::table_fault(listing[at]);
-        at += 1;
+    for at in start..end {
+        faults |= fields::table_fault(listing[at]);
     }
-    is_kind(faults, 0)
+    KIND.of(faults) == 0
 }
 
 // The first word of the tables that is invalid; where there is none, `end`.
@@ -78,62 +87,52 @@ fn first_invalid_table_word(
         return end;
     }
     let mut at = start;
-    let mut stratum: usize = 0;
-    'strata: while stratum < strata {
-        let mut age: usize = 1;
-        while age <= horizon {
+    'strata: for _stratum in 0..strata {
+        for _age in 0..horizon {
             if !fields::is_table_word(listing[at]) {
                 break 'strata;
             }
             at += 1;
-            age += 1;
         }
-        stratum += 1;
     }
     at
 }
 
-// Whether every word of the cells is valid, with a cell's two words in an iteration and none left over.
-fn cells_valid(listing: &[u32], strata: u32, horizon: u32, start: usize, end: usize) -> bool
-    requires { (start ≤ end) × (end ≤ length listing.now) }
-    ensures { result ≡ true → end ≡ first_invalid (cell_word_valid listing.now strata horizon start) start end }
+// Whether every word of the cells is valid: without a branch for each, as above.
+fn cells_valid(listing: &[u32], h: Head, start: usize) -> bool
+    requires { start + cell_words * h.cells ≤ length listing.now }
+    ensures { result ≡ true →
+        start + cell_words * h.cells ≡ first_invalid (cell_word_valid listing.now h.strata h.horizon start) start (start + cell_words * h.cells) }
 {
     let mut valid = true;
-    let mut at = start;
-    while at + 1 < end {
-        valid = valid & fields::is_depth_word(listing[at], strata, horizon);
-        valid = valid & fields::is_area_word(listing[at + 1]);
-        at += CELL_WORDS;
+    for i in 0..h.cells as usize {
+        let at = start + CELL_WORDS * i;
+        valid &= fields::is_depth_word(listing[at], h.strata, h.horizon);
+        valid &= fields::is_area_word(listing[at + 1]);
     }
-    valid & (at == end)
+    valid
 }
 
 // The first word of the cells that is invalid; where there is none, `end`.
-fn first_invalid_cell_word(
-    listing: &[u32],
-    strata: u32,
-    horizon: u32,
-    start: usize,
-    end: usize,
-) -> usize
-    requires { (start ≤ end) × (end ≤ length listing.now) }
-    ensures { result ≡ first_invalid (cell_word_valid listing.now strata horizon start) start end }
+fn first_invalid_cell_word(listing: &[u32], h: Head, start: usize, end: usize) -> usize
+    requires { (end ≡ start + cell_words * h.cells) × (end ≤ length listing.now) }
+    ensures { result ≡ first_invalid (cell_word_valid listing.now h.strata h.horizon start) start end }
 {
-    if cells_valid(listing, strata, horizon, start, end) {
+    if cells_valid(listing, h, start) {
         return end;
     }
-    let mut at = start;
-    while at < end {
-        if !is_cell_word(listing[at], strata, horizon, (at - start) % CELL_WORDS) {
-            break;
-        }
-        at += 1;
-    }
-    at
+    first_invalid(
+        start,
+        end,
+        |at: usize| -> bool
+            requires { (start ≤ at) × (at < length listing.now) }
+            ensures { result ≡ cell_word_valid listing.entry.now h.strata h.horizon start at }
+        { is_cell_word(listing[at], h.strata, h.horizon, (at - start) % CELL_WORDS) },
+    )
 }
 
 // Whether there are terms, each of them valid and above the one before: without a branch for each
-// word, since most listings are.
+// word, as above.
 fn terms_valid(listing: &[u32], horizon: u32, start: usize) -> bool
     requires { start ≤ length listing.now }
     ensures { result ≡ true →
@@ -145,12 +144,11 @@ fn terms_valid(listing: &[u32], horizon: u32, start: usize) -> bool
     }
     let mut valid = fields::is_term_word(listing[start], horizon);
     let mut last = fields::term_order(listing[start]);
-    let mut at = start + 1;
-    while at < listing.len() {
+    for at in start + 1..listing.len() {
         let next = fields::term_order(listing[at]);
-        valid = valid & fields::is_term_word(listing[at], horizon) & (last < next);
+        valid &= fields::is_term_word(listing[at], horizon);
+        valid &= last < next;
         last = next;
-        at += 1;
     }
     valid
 }
@@ -160,14 +158,14 @@ fn first_invalid_term(listing: &[u32], horizon: u32, start: usize) -> usize
     requires { start ≤ length listing.now }
     ensures { result ≡ first_invalid (term_word_valid listing.now horizon) start (length listing.now) }
 {
-    let mut at = start;
-    while at < listing.len() {
-        if !fields::is_term_word(listing[at], horizon) {
-            break;
-        }
-        at += 1;
-    }
-    at
+    first_invalid(
+        start,
+        listing.len(),
+        |at: usize| -> bool
+            requires { at < length listing.now }
+            ensures { result ≡ term_word_valid listing.entry.now horizon at }
+        { fields::is_term_word(listing[at], horizon) },
+    )
 }
 
 // The first term that is not above the one before; where there is none, the length, or one more
@@ -176,14 +174,17 @@ fn first_term_not_above(listing: &[u32], start: usize) -> usize
     requires { start ≤ length listing.now }
     ensures { result ≡ first_invalid (term_above listing.now) (start + 1) (length listing.now) }
 {
-    let mut at = start + 1;
-    while at < listing.len() {
-        if !fields::is_above(listing[at - 1], listing[at]) {
-            break;
-        }
-        at += 1;
+    if listing.len() <= start {
+        return start + 1;
     }
-    at
+    first_invalid(
+        start + 1,
+        listing.len(),
+        |at: usize| -> bool
+            requires { (1 ≤ at) × (at < length listing.now) }
+            ensures { result ≡ term_above listing.entry.now at }
+        { fields::is_above(listing[at - 1], listing[at]) },
+    )
 }
 
 // The head of a listing.
@@ -207,45 +208,54 @@ pub fn offsets_of(h: Head) -> Offsets
     }
 }
 
-// Where the table of a stratum has its word for a year of age. `h` is the listing's head, here and
-// below, so that it is read once where many words are.
-fn row_at(listing: &[u32], h: Head, stratum: u32, age: u32) -> usize
-    requires { Accepted listing.now × (h ≡ head listing.now) × (stratum < strata listing.now) × (1 ≤ age) × (age ≤ horizon listing.now) }
-    ensures { (result ≡ row_at listing.now stratum age) × (result < length listing.now) }
-{
-    let s = offsets_of(h);
-    s.tables + (stratum * h.horizon) as usize + (age - 1) as usize
+impl Listing<'_> {
+    // Where the parts begin.
+    pub fn offsets(&self) -> Offsets
+        ensures { result ≡ offsets_of (head self.now.words.now) }
+    {
+        offsets_of(self.figures)
+    }
+
+    // Where the table of a stratum has its word for a year of age.
+    fn row_at(&self, stratum: u32, age: u32) -> usize
+        requires { (stratum < strata self.now.words.now) × (1 ≤ age) × (age ≤ horizon self.now.words.now) }
+        ensures { (result ≡ row_at self.now.words.now stratum age) × (result < length self.now.words.now) }
+    {
+        let s = self.offsets();
+        s.tables + (stratum * self.figures.horizon) as usize + (age - 1) as usize
+    }
+
+    // Where cell `i` has its first word.
+    fn cell_at(&self, i: usize) -> usize
+        requires { i < cells self.now.words.now }
+        ensures { (result ≡ cell_at self.now.words.now i) × (result + 1 < length self.now.words.now) }
+    {
+        let s = self.offsets();
+        s.cells + CELL_WORDS * i
+    }
+
+    // The row of a stratum's table for a year of age.
+    pub fn row(&self, stratum: u32, age: u32) -> Row
+        requires { (stratum < strata self.now.words.now) × (1 ≤ age) × (age ≤ horizon self.now.words.now) }
+        ensures { result ≡ row self.now.words.now stratum age }
+    {
+        Row::from(self.words[self.row_at(stratum, age)])
+    }
+
+    // The figures of cell `i`.
+    pub fn cell(&self, i: usize) -> Cell
+        requires { i < cells self.now.words.now }
+        ensures { result ≡ cell self.now.words.now i }
+    {
+        let at = self.cell_at(i);
+        fields::cell_of(self.words[at], self.words[at + 1])
+    }
 }
 
-// Where cell `i` has its first word.
-fn cell_at(listing: &[u32], h: Head, i: usize) -> usize
-    requires { Accepted listing.now × (h ≡ head listing.now) × (i < cells listing.now) }
-    ensures { (result ≡ cell_at listing.now i) × (result + 1 < length listing.now) }
-{
-    let s = offsets_of(h);
-    s.cells + CELL_WORDS * i
-}
-
-// The row of a stratum's table for a year of age.
-pub fn row(listing: &[u32], h: Head, stratum: u32, age: u32) -> Row
-    requires { Accepted listing.now × (h ≡ head listing.now) × (stratum < strata listing.now) × (1 ≤ age) × (age ≤ horizon listing.now) }
-    ensures { result ≡ row listing.now stratum age }
-{
-    fields::row_of(listing[row_at(listing, h, stratum, age)])
-}
-
-// The figures of cell `i`.
-pub fn cell(listing: &[u32], h: Head, i: usize) -> Cell
-    requires { Accepted listing.now × (h ≡ head listing.now) × (i < cells listing.now) }
-    ensures { result ≡ cell listing.now i }
-{
-    let at = cell_at(listing, h, i);
-    fields::cell_of(listing[at], listing[at + 1])
-}
-
-// Numbers 4 and 5, for the words after the head, whose parts begin at `s`.
+// Numbers 4 and 5, for the words after the head, whose parts begin at `s`. Words that are not accepted yet
+// have no type, so that the head goes beside them.
 #[tactic(auto, using(words::proofs::Answers::answers), unfolding(crate::specs::Check::words_checked))]
-fn check_words(listing: &[u32], h: Head, s: Offsets) -> Outcome
+fn check_words(listing: &[u32], h: Head, s: Offsets) -> Result<(), Refusal>
     requires { Contiguous h s × (s.terms ≤ length listing.now) }
     ensures { outcome result ≡ words_checked listing.now h s }
 {
@@ -257,50 +267,55 @@ fn check_words(listing: &[u32], h: Head, s: Offsets) -> Outcome
         s.cells,
     );
     if table < s.cells {
-        return refuse(LATER_WORD, table);
+        return refuse(Reason::LaterWord, table);
     }
-    let cell = first_invalid_cell_word(listing, h.strata, h.horizon, s.cells, s.terms);
+    let cell = first_invalid_cell_word(listing, h, s.cells, s.terms);
     if cell < s.terms {
-        return refuse(LATER_WORD, cell);
+        return refuse(Reason::LaterWord, cell);
     }
     if terms_valid(listing, h.horizon, s.terms) {
-        return Outcome::Done;
+        return Ok(());
     }
     let term = first_invalid_term(listing, h.horizon, s.terms);
     let later = first_term_not_above(listing, s.terms);
     if term < listing.len() {
-        return refuse(LATER_WORD, term);
+        return refuse(Reason::LaterWord, term);
     }
     if later < listing.len() {
-        return refuse(TERM_NOT_ABOVE, later);
+        return refuse(Reason::TermNotAbove, later);
     }
-    Outcome::Done
+    Ok(())
 }
 
 // Number 3, and then the words.
-fn check_later(listing: &[u32], h: Head, s: Offsets) -> Outcome
+fn check_later(listing: &[u32], h: Head, s: Offsets) -> Result<(), Refusal>
     requires { Contiguous h s }
     ensures { outcome result ≡ later_checked listing.now h s }
 {
     if listing.len() < s.terms {
-        return refuse(LISTING_SHORT, listing.len());
+        return refuse(Reason::ListingShort, listing.len());
     }
     check_words(listing, h, s)
 }
 
-// The answer for any words: numbers 1 to 5.
-pub fn check(listing: &[u32]) -> Outcome
-    ensures { outcome result ≡ checked listing.now }
+// The answer for any words, numbers 1 to 5: the listing, or why it is refused.
+pub fn check(listing: &[u32]) -> Result<Listing<'_>, Refusal>
+    ensures value { outcome result ≡ checked listing.now }
+    ensures same_words { IfOk result (λ l. l.words.now ≡ listing.now) }
 {
     if listing.len() < LEAST_WORDS {
-        return refuse(TOO_FEW_WORDS, 0);
+        return refuse(Reason::TooFewWords, 0);
     }
     if !fields::is_size_word(listing[0]) {
-        return refuse(HEAD_WORD, 0);
+        return refuse(Reason::HeadWord, 0);
     }
     if !fields::is_figure_word(listing[1]) {
-        return refuse(HEAD_WORD, 1);
+        return refuse(Reason::HeadWord, 1);
     }
     let h = head(listing);
-    check_later(listing, h, offsets_of(h))
+    check_later(listing, h, offsets_of(h))?;
+    Ok(Listing {
+        words: listing,
+        figures: h,
+    })
 }

@@ -7,17 +7,13 @@ use native.Mathlib.Omega.{arith}
 use Rattle.listing.specs.Layout.{head, cells, cell}
 use Rattle.listing.specs.Accepted.{Accepted}
 use Rattle.book.specs.Current.{current, fitted, Holds}
-use Rattle.book.specs.AcceptedBook.{Storable, EntryValid}
+use Rattle.book.specs.AcceptedBook.{EntryValid}
 use Rattle.book.proofs.AcceptedBook.{shaped, fitted_accepted}
-use Rattle.book.proofs.Held.{valid_storable}
 use Rattle.book.proofs.New.{new_holds}
 use Rattle.opening.specs.Opening.{open_entry, open_book}
 
 pub opened_valid : (l : List ℕ) → Accepted l → (i : ℕ) → i < cells l → EntryValid (head l) (cell l i) (open_entry l i)
 opened_valid l a i lt = record { plan = (a.cell_valid i lt).conversion; most = zero-le; lost = zero-le }
-
-pub opened_storable : (l : List ℕ) → Accepted l → (i : ℕ) → i < cells l → Storable (open_entry l i)
-opened_storable l a i lt = valid_storable a.head_valid (a.cell_valid i lt) (open_entry l i) (opened_valid l a i lt)
 
 -- what the opened book holds
 pub open_holds : (l b : List ℕ) → (fitted l b).done ≡ true → Holds l (open_book l b) 0 0 (open_entry l)

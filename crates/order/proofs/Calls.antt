@@ -201,7 +201,8 @@ module _ {n : ℕ} {o : Order n} {l l' b b' : List ℕ} (v : Pair o l l' b b') w
   both : (a a' : Answer) {new new' : List ℕ} → a'.done ≡ a.done → (a.done ≡ true → BookMoved o new new') → BookMoved o (written a b new) (written a' b' new')
   both a a' alike f = written_both (BookMoved o) a a' b _ b' _ (sym alike) eb f
 
-  pub book_same : (c : Call) (y : List ℕ) → (call_effect l' b' (moved o y c)).answer.done ≡ (call_effect l b c).answer.done → BookMoved o (call_effect l b c).book (call_effect l' b' (moved o y c)).book
+  pub book_same : (c : Call) (y : List ℕ) → (call_effect l' b' (moved o y c)).answer.done ≡ (call_effect l b c).answer.done →
+      BookMoved o (call_effect l b c).book (call_effect l' b' (moved o y c)).book
   unfolding close_effect replan_effect withdraw_effect issue_effect
   book_same (Close x) y alike = both _ _ alike (λ done. let a = call_admitted l b (Close x) done in closed_moved e eb (valid a).fitted (valid' a).fitted (own (length x) done))
   book_same (Replan k t) y alike =

@@ -1,6 +1,6 @@
 -- Which answers peatrun meets: an open is refused by the listing's own numbers alone, and no call after it is refused. Assumes nothing.
 use mathlib.Core.Path.{◌≡◌, sym, ap, ◌∙◌}
-use mathlib.Core.Bool.{Bool, true, false, cond, false≢true}
+use mathlib.Core.Bool.{true, false, false≢true}
 use mathlib.Core.List.{List, []}
 use Prim.Native.Nat.{ℕ, ◌+◌, ◌*◌, ◌≤◌, ◌<◌}
 use native.Mathlib.Numerals.{add-one}
@@ -8,15 +8,11 @@ use native.Mathlib.Omega.{arith}
 use lib.Dec.{leb}
 use lib.ListN.{length}
 use borrow.Author.Tests.{le-leb}
-use Rattle.words.specs.Answers.{Answer, accepted, outcome, amount, after}
+use Rattle.words.specs.Answers.{Answer, accepted, after}
 use Rattle.words.specs.Effect.{Effect, effect}
 use Rattle.words.specs.Refusals.{book_short}
-use Rattle.words.specs.declared.Refusal.{Refusal}
-use Rattle.words.specs.declared.Outcome.{Outcome}
-use Rattle.words.specs.declared.Outcome.TheVariants.{Done, Refused}
-use Rattle.words.specs.declared.Amount.{Amount}
-use Rattle.words.specs.declared.Amount.TheVariants as amounts
 use Rattle.words.proofs.Answers.{need_is, after_is}
+use Rattle.words.proofs.Effect.{effect_answer, effect_book, effect_output}
 use Rattle.words.proofs.Signed.{by_test}
 use Rattle.fields.specs.Words.{most_cells}
 use Rattle.listing.specs.Layout.{least_words, cells, horizon, cell}
@@ -31,10 +27,7 @@ use Rattle.book.specs.Check as check
 use Rattle.book.proofs.AcceptedBook.{shaped, accepted_book}
 use Rattle.closing.specs.Closable.{Closable}
 use Rattle.closing.proofs.Closable.{closable_before, closes}
-use Rattle.ledger.specs.Calls.{open_effect, close_effect, issue_answer, issue_effect, StatementAnswer, no_figures, stated, figures_of, statement_answer}
-use Rattle.ledger.specs.declared.CellFigures.{CellFigures}
-use Rattle.ledger.specs.declared.Stated.{Stated}
-use Rattle.ledger.specs.declared.Stated.TheVariants as state
+use Rattle.ledger.specs.Calls.{open_effect, close_effect, issue_answer, issue_effect, StatementAnswer, figures_of, statement_answer}
 use Rattle.ledger.proofs.AdmittedCell.{cell_admitted}
 use Rattle.ledger.proofs.After.{opened_holds, closed_holds, issued_holds}
 use Rattle.peatrun.specs.Years.{RefusedByListing, InYear, Ran, Slices, ran_for}
@@ -60,16 +53,14 @@ module _ (l b : List ℕ) (long_enough : book_size most_cells ≤ length b) wher
       by_test ByListing (checked l).done (capacity_checked current l b) (checked l) capacity_listed
       (λ _. checked_either ByListing (λ n k low high h. record { refused = h; least = low; most = high }) (λ h. absurd (false≢true (sym h))) l)
 
-  pub opened_refused : (book' : List ℕ) (v : Outcome) → effect (outcome v) book' [] ≡ open_effect l b → (r : Refusal) → v ≡ Refused r → RefusedByListing (outcome v)
-  opened_refused book' v e r d =
-      let same = ap (λ (m : Effect). m.answer) e in
-      rw same (opened_listed (ap (λ (a : Answer). a.done) (sym same ∙ ap outcome d)))
+  pub opened_refused : (a : Answer) (book' : List ℕ) → effect a book' [] ≡ open_effect l b → a.done ≡ false → RefusedByListing a
+  opened_refused a book' e d = let same = effect_answer e in rw same (opened_listed (rw same at d))
 
--- and where it answered `Done` the book is opened
-pub opened : (l b book' : List ℕ) (v : Outcome) → effect (outcome v) book' [] ≡ open_effect l b → v ≡ Done → InYear l book' 0
-opened l b book' v e d =
-    let holds = opened_holds l b (sym (ap (λ (m : Effect). m.answer.done) (ap (λ (u : Outcome). effect (outcome u) book' []) (sym d) ∙ e))) in
-    rw (ap (λ (m : Effect). m.book) e) (record { admits = holds.admits; year_is = holds.year_is })
+-- and where it was accepted the book is opened
+pub opened : (l b book' : List ℕ) (x : ℕ) → effect (accepted x) book' [] ≡ open_effect l b → InYear l book' 0
+opened l b book' x e =
+    let holds = opened_holds l b (ap (λ (a : Answer). a.done) (sym (effect_answer e))) in
+    rw (effect_book e) (record { admits = holds.admits; year_is = holds.year_is })
 
 -- ---- a year of an opened book
 
@@ -85,40 +76,32 @@ module _ (l b : List ℕ) (t : ℕ) (o : InYear l b t) where
   pub closable : t < horizon l → (capacity : ℕ) → capacity ≡ line_words * cells l → Closable l b capacity
   closable ahead capacity enough = closable_before l b capacity (omega arith) (rw o.year_is ahead) o.admits
 
--- the closing answered v, and left book' and lines'
-module _ (l b x : List ℕ) (k : Closable l b (length x)) (v : Outcome) (book' lines' : List ℕ) (e : effect (outcome v) book' lines' ≡ close_effect l b x) where
+-- the closing answered a, and left book' and lines'
+module _ (l b x : List ℕ) (k : Closable l b (length x)) (a : Answer) (book' lines' : List ℕ) (e : effect a book' lines' ≡ close_effect l b x) where
   closed_done : (close_effect l b x).answer.done ≡ true
   unfolding close_effect
   closed_done = closes l b (length x) k
 
-  pub closed_not_refused : (r : Refusal) → v ≡ Refused r → ⊥
-  closed_not_refused r d = false≢true (ap (λ (a : Answer). a.done) (ap outcome (sym d)) ∙ ap (λ (m : Effect). m.answer.done) e ∙ closed_done)
+  pub closed_passed : a.done ≡ true
+  closed_passed = rw (effect_answer e) closed_done
 
   -- the issue after it answered w, and left book''
-  module _ (w : Amount) (book'' : List ℕ) (f : effect (amount w) book'' [] ≡ issue_effect l book') where
-    issued_done : (issue_effect l book').answer.done ≡ true
+  module _ (w : Answer) (book'' : List ℕ) (f : effect w book'' [] ≡ issue_effect l book') where
+    pub issued_passed : w.done ≡ true
     unfolding issue_effect issue_answer
-    issued_done =
-        let admits : (admitted l book').done ≡ true = rw (ap (λ (m : Effect). m.book) e) (closed_holds l b x closed_done).admits in
-        sym (ap (λ (a : Answer). a.done) (after_is _ (admitted l book') admits))
+    issued_passed =
+        let admits : (admitted l book').done ≡ true = rw (effect_book e) (closed_holds l b x closed_done).admits in
+        rw (effect_answer f) (sym (ap (λ (t : Answer). t.done) (after_is _ (admitted l book') admits)))
 
-    pub issued_not_refused : (r : Refusal) → w ≡ amounts.Refused r → ⊥
-    issued_not_refused r d = false≢true (ap (λ (a : Answer). a.done) (ap amount (sym d)) ∙ ap (λ (m : Effect). m.answer.done) f ∙ issued_done)
-
-    pub ran : v ≡ Done → (tonnes : ℕ) → w ≡ amounts.Value tonnes → Ran l b x book'' lines' tonnes
-    ran d tonnes d' =
-        let same : book' ≡ (close_effect l b x).book = ap (λ (m : Effect). m.book) e in
-        record {
-          closed = ap (λ (y : List ℕ). effect (accepted 0) y lines') (sym same) ∙ ap (λ (u : Outcome). effect (outcome u) book' lines') (sym d) ∙ e;
-          issued = ap (λ (u : Amount). effect (amount u) book'' []) (sym d') ∙ f ∙ ap (issue_effect l) same;
-        }
+    pub ran : (tonnes : ℕ) → a ≡ accepted 0 → w ≡ accepted tonnes → Ran l b x book'' lines' tonnes
+    ran tonnes p q = let book_is = effect_book e in record { closed = rw (p, book_is) at e; issued = rw (q, book_is) at f }
 
 -- the book after it is in the next year
 pub ran_opened : (l b x book' lines' : List ℕ) (tonnes t : ℕ) → InYear l b t → Ran l b x book' lines' tonnes → InYear l book' (t + 1)
 ran_opened l b x book' lines' tonnes t o r =
     let closed = closed_holds l b x (sym (ap (λ (m : Effect). m.answer.done) r.closed)) in
     let issued = issued_holds l (close_effect l b x).book (sym (ap (λ (m : Effect). m.answer.done) r.issued)) in
-    let same = ap (λ (m : Effect). m.book) r.issued in
+    let same = effect_book r.issued in
     record { admits = rw same issued.admits; year_is = rw same (issued.year_is ∙ closed.year_is ∙ ap (λ (y : ℕ). y + 1) o.year_is) }
 
 -- after t years and one more: book and lines are those of t + 1
@@ -126,19 +109,17 @@ pub ran_next : (l : List ℕ) (s : Slices) (t : ℕ) (b x book' lines' : List �
     (book' ≡ (ran_for l s (t + 1)).book) × (lines' ≡ (ran_for l s (t + 1)).lines)
 unfolding ran_for
 ran_next l s t b x book' lines' tonnes b-is x_is r = (
-  rw (add-one, sym b-is, sym x_is) (ap (λ (m : Effect). m.book) r.issued),
-  rw (add-one, sym b-is, sym x_is) (ap (λ (m : Effect). m.output) r.closed),
+  rw (add-one, sym b-is, sym x_is) (effect_book r.issued),
+  rw (add-one, sym b-is, sym x_is) (effect_output r.closed),
 )
 
--- ---- a statement of a cell of an opened book, which answered v
+-- ---- a statement of a cell of an opened book, which answered s
 
-module _ (l b : List ℕ) (i : ℕ) (admits : (admitted l b).done ≡ true) (lt : i < cells l) (v : Stated) (e : stated v ≡ statement_answer l b i) where
-  pub stated_not_refused : (r : Refusal) → v ≡ state.Refused r → ⊥
+module _ (l b : List ℕ) (i : ℕ) (admits : (admitted l b).done ≡ true) (lt : i < cells l) (s : StatementAnswer) (e : s ≡ statement_answer l b i) where
+  pub stated_passed : s.answer.done ≡ true
   unfolding statement_answer
-  stated_not_refused r d = false≢true (ap (λ (m : StatementAnswer). m.answer.done) (ap stated (sym d) ∙ e) ∙ cell_admitted l b i admits lt)
+  stated_passed = rw e (cell_admitted l b i admits lt)
 
-  pub stated_remaining : (a : CellFigures) → v ≡ state.Value a → a.remaining ≡ remaining (cell l i) (entry b i)
+  pub stated_remaining : s.figures.remaining ≡ remaining (cell l i) (entry b i)
   unfolding statement_answer figures_of
-  stated_remaining a d =
-      ap (λ (m : StatementAnswer). m.figures.remaining) (ap stated (sym d) ∙ e)
-      ∙ ap (λ (t : Bool). (cond t (figures_of l b i) no_figures).remaining) (cell_admitted l b i admits lt)
+  stated_remaining = rw (e, cell_admitted l b i admits lt)

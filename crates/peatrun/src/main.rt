@@ -2,9 +2,9 @@
 // line for each year, and what is left; or why the input is refused. It stops at a write that fails.
 #![tactic(auto)]
 
-ghost use Rattle.std.specs.Prelude.{◌≡◌, true, ◌*◌, ◌^◌, ◌≤◌, ◌<◌, ltb, length};
+ghost use Rattle.std.specs.Prelude.{◌≡◌, true, ◌*◌, ◌^◌, ◌≤◌, ◌<◌, ltb, length, OnOk};
 ghost use Rattle.words.specs.Answers.{outcome};
-ghost use Rattle.words.specs.Refusals.{too_few_words, term_not_above};
+ghost use Rattle.words.specs.Refusals.{too_few_words, term_not_above, number_of};
 ghost use Rattle.listing.specs.Layout.{cells, horizon, cell};
 ghost use Rattle.year.specs.Year.{remaining};
 ghost use Rattle.book.specs.Current.{entry, admitted};
@@ -14,79 +14,59 @@ ghost use Rattle.peatrun.specs.Years.{most_bytes, RefusedByListing, InYear, Ran,
 
 use book::{BOOK, LINE_WORDS};
 use fields::MOST_CELLS;
-use ledger::Stated;
 use listing::MOST_WORDS;
+use std::io;
 use std::io::Read;
-use words::{Amount, Outcome, Refusal};
+use totals::Line;
+use words::Refusal;
 
 // The sizes of the buffers: the bytes of the longest listing, the book and the lines of the most
-// cells.
+// cells. The program keeps to fixed memory.
 const MOST_BYTES: usize = 4 * MOST_WORDS;
 
 const MOST_BOOK_WORDS: usize = BOOK.head + BOOK.entry * MOST_CELLS as usize;
 
 const MOST_LINE_WORDS: usize = LINE_WORDS * MOST_CELLS as usize;
 
-// What a read to the end finds: so many bytes, or that a read failed.
-#[derive(Clone, Copy)]
-enum Input {
-    Bytes(usize),
-    Failed,
-}
-
-// Reads until `buffer` is full or the input ends. A read that fails is not the end of the input.
-fn read(input: &mut impl Read, buffer: &mut [u8]) -> Input {
+// Reads until `buffer` is full or the input ends, and answers how many bytes it read. A read that
+// fails is not the end of the input. The library's `read_to_end` wants a `Vec`.
+fn read(input: &mut impl Read, buffer: &mut [u8]) -> io::Result<usize> {
     let mut done: usize = 0;
     while done < buffer.len() {
-        let Ok(n) = input.read(&mut buffer[done..]) else {
-            return Input::Failed;
-        };
+        let n = input.read(&mut buffer[done..])?;
         if n == 0 {
             break;
         }
         done += n;
     }
-    Input::Bytes(done)
-}
-
-// Each function that prints answers whether all of it was written.
-fn print(rt: &impl Print, text: &[u8]) -> bool {
-    rt.write_all(text).is_ok()
-}
-
-// A number, and what follows it.
-fn print_number(rt: &impl Print, n: u64, then: &[u8]) -> bool {
-    rt.print(n).is_ok() && print(rt, then)
+    Ok(done)
 }
 
 // The word refused, its number and its place. Only a listing is refused here, by 1 to 5.
-fn print_refused(rt: &impl Print, why: Refusal) -> bool
-    requires { (too_few_words ≤ why.number) × (why.number ≤ term_not_above) }
+fn print_refused(rt: &impl Print, why: Refusal) -> io::Result<()>
+    requires { (too_few_words ≤ number_of why.reason) × (number_of why.reason ≤ term_not_above) }
 {
-    print(rt, b"refused ")
-        && print_number(rt, why.number as u64, b" ")
-        && print_number(rt, why.place as u64, b"\n")
+    println!(rt; "{why}")
 }
 
 // Prints the refusal of an answer.
-fn print_refusal(rt: &impl Print, answer: Outcome) -> bool
+fn print_refusal(rt: &impl Print, answer: Result<(), Refusal>) -> io::Result<()>
     requires { RefusedByListing (outcome answer) }
 {
     match answer {
-        Outcome::Done => true,
-        Outcome::Refused(why) => print_refused(rt, why),
+        Ok(()) => Ok(()),
+        Err(why) => print_refused(rt, why),
     }
 }
 
 // A year's line: mm oxidised, mm burned and kg over all cells, and the tonnes issued.
-fn print_year(rt: &impl Print, year: u32, lines: &[u32], tonnes: u32) -> bool
+fn print_year(rt: &impl Print, year: u32, lines: &[u32], tonnes: u32) -> io::Result<()>
     requires { length lines.now ≤ 2 ^ 32 }
 {
-    print_number(rt, year as u64, b" ")
-        && print_number(rt, totals::line_total(lines, 0), b" ")
-        && print_number(rt, totals::line_total(lines, 1), b" ")
-        && print_number(rt, totals::line_total(lines, 2), b" ")
-        && print_number(rt, tonnes as u64, b"\n")
+    let oxidised = totals::line_total(lines, Line::Oxidised);
+    let burned = totals::line_total(lines, Line::Burned);
+    let kg = totals::line_total(lines, Line::Kg);
+    println!(rt; "{year} {oxidised} {burned} {kg} {tonnes}")
 }
 
 // Closes the year after the current one and issues: the tonnes. Neither call is refused, by the
@@ -95,33 +75,33 @@ fn run_year(listing: &[u32], book: &mut [u32], lines: &mut [u32]) -> u32
     requires { Closable listing.now book.old (length lines.old) }
     ensures { Ran listing.now book.old lines.old book.new lines.new result }
 {
-    let closed = ledger::close(listing, book, lines);
-    let Outcome::Done = closed else {
+    let Ok(()) = ledger::close(listing, book, lines) else {
         return 0;
     };
-    let issued = ledger::issue(listing, book);
-    let Amount::Value(tonnes) = issued else {
+    let Ok(tonnes) = ledger::issue(listing, book) else {
         return 0;
     };
     tonnes
 }
 
 // Every year of a book in year 0, unless a line cannot be written.
-fn run_years(rt: &impl Print, listing: &[u32], book: &mut [u32], lines: &mut [u32]) -> bool
+#[tactic(auto, using(crate::proofs::Years::opened_long, crate::proofs::Years::opened_cells))]
+fn run_years(
+    rt: &impl Print,
+    listing: &[u32],
+    book: &mut [u32],
+    lines: &mut [u32],
+) -> io::Result<()>
     requires { InYear listing.now book.old 0 × (length lines.old ≡ line_words * cells listing.now) }
     ensures new_book { (admitted listing.now book.new).done ≡ true }
-    ensures every_year { result ≡ true → book.new ≡ (ran_for listing.now (record { book = book.old; lines = lines.old }) (horizon listing.now)).book }
+    ensures every_year { OnOk result (book.new ≡ (ran_for listing.now (record { book = book.old; lines = lines.old }) (horizon listing.now)).book) }
 {
     let horizon = listing::head(listing).horizon;
-    let mut year: u32 = 0;
-    while year < horizon {
-        year += 1;
+    for year in 0..horizon {
         let tonnes = run_year(listing, book, lines);
-        if !print_year(rt, year, lines, tonnes) {
-            return false;
-        }
+        print_year(rt, year + 1, lines, tonnes)?;
     }
-    true
+    Ok(())
 }
 
 // What remains of cell `i`, by its statement. The book passes the tests and has the cell, so that
@@ -130,53 +110,54 @@ fn remaining(listing: &[u32], book: &[u32], i: usize) -> u32
     requires { ((admitted listing.now book.now).done ≡ true) × (i < cells listing.now) }
     ensures { result ≡ remaining (cell listing.now i) (entry book.now i) }
 {
-    let stated = ledger::statement(listing, book, i);
-    let Stated::Value(account) = stated else {
+    let Ok(figures) = ledger::statement(listing, book, i) else {
         return 0;
     };
-    account.remaining
+    figures.remaining
 }
 
 // The mm that remain, over all cells.
+#[tactic(auto, using(crate::proofs::Years::opened_long))]
 fn remaining_total(listing: &[u32], book: &[u32]) -> u64
     requires { (admitted listing.now book.now).done ≡ true }
     ensures { result ≡ remaining_total listing.now book.now }
 {
     let cells = listing::head(listing).cells as usize;
     let mut sum: u64 = 0;
-    let mut i: usize = 0;
-    while i < cells {
-        sum += remaining(listing, book, i) as u64;
-        i += 1;
+    for i in 0..cells {
+        sum += u64::from(remaining(listing, book, i));
     }
     sum
 }
 
-fn print_remaining(rt: &impl Print, listing: &[u32], book: &[u32]) -> bool
+fn print_remaining(rt: &impl Print, listing: &[u32], book: &[u32]) -> io::Result<()>
     requires { (admitted listing.now book.now).done ≡ true }
 {
-    print(rt, b"left ") && print_number(rt, remaining_total(listing, book), b"\n")
+    let left = remaining_total(listing, book);
+    println!(rt; "left {left}")
 }
 
 // The table of an opened book, with space for its lines.
-fn run_opened(rt: &impl Print, listing: &[u32], book: &mut [u32], lines: &mut [u32]) -> bool
+#[tactic(auto, using(crate::proofs::Years::opened_long))]
+fn run_opened(
+    rt: &impl Print,
+    listing: &[u32],
+    book: &mut [u32],
+    lines: &mut [u32],
+) -> io::Result<()>
     requires { InYear listing.now book.old 0 × (line_words * cells listing.now ≤ length lines.old) }
 {
-    if !print(rt, b"year ox burn kg issued\n") {
-        return false;
-    }
+    println!(rt; "year ox burn kg issued")?;
     let end = LINE_WORDS * listing::head(listing).cells as usize;
-    if !run_years(rt, listing, book, &mut lines[0..end]) {
-        return false;
-    }
+    run_years(rt, listing, book, &mut lines[0..end])?;
     print_remaining(rt, listing, &book[..])
 }
 
 // The table of a listing, or its refusal.
-fn run(rt: &impl Print, listing: &[u32]) -> bool {
+fn run(rt: &impl Print, listing: &[u32]) -> io::Result<()> {
     let mut book = [0u32; MOST_BOOK_WORDS];
     let opened = ledger::open(listing, &mut book);
-    let Outcome::Done = opened else {
+    let Ok(()) = opened else {
         return print_refusal(rt, opened);
     };
     let mut lines = [0u32; MOST_LINE_WORDS];
@@ -191,11 +172,11 @@ fn too_long(count: usize) -> bool
 }
 
 // What is printed for bytes that are not too many.
-fn answer(rt: &impl Print, bytes: &[u8]) -> bool
+fn answer(rt: &impl Print, bytes: &[u8]) -> io::Result<()>
     requires { length bytes.now ≤ most_bytes }
 {
     if bytes.len() % 4 != 0 {
-        return print(rt, b"odd bytes\n");
+        return println!(rt; "odd bytes");
     }
     let mut words = [0u32; MOST_WORDS];
     let n = decode::decode(bytes, &mut words);
@@ -204,17 +185,16 @@ fn answer(rt: &impl Print, bytes: &[u8]) -> bool
 
 fn main(rt: HostRuntime) {
     let mut buffer = [0u8; MOST_BYTES + 1];
-    let input = read(&mut rt.stdin(), &mut buffer);
-    let Input::Bytes(count) = input else {
+    let Ok(count) = read(&mut rt.stdin(), &mut buffer) else {
         let _ = eprintln!(rt; "peatrun: standard input cannot be read");
         return;
     };
     let written = if too_long(count) {
-        print(&rt, b"too long\n")
+        println!(rt; "too long")
     } else {
         answer(&rt, &buffer[0..count])
     };
-    if !written {
+    if written.is_err() {
         let _ = eprintln!(rt; "peatrun: standard output cannot be written");
     }
 }

@@ -3,13 +3,13 @@
 
 ghost use Rattle.std.specs.Prelude.{◌≡◌, true, false, pos, ◌+ℤ◌};
 ghost use Rattle.words.specs.Answers.{amount};
-ghost use Rattle.reading.specs.Metres.{is_finite, numerator, in_range, in_level, mm, lowest_mm, Ends};
+ghost use Rattle.reading.specs.Metres.{is_finite, numerator, in_range, in_core, in_level, mm, lowest_mm, Ends};
 ghost use Rattle.reading.specs.Depth.{core, levels, depth};
 ghost use Rattle.reading.specs.declared.Reading.TheVariants.{Missing};
 
-use words::{Amount, NOT_FINITE, OUT_OF_RANGE, READING_MISSING, refuse_amount};
+use words::{Field, Reason, Refusal, refuse};
 
-#[derive(Clone, Copy)]
+#[derive(Clone, Copy, Debug, PartialEq)]
 pub enum Reading {
     Core(f32),
     Levels(f32, f32),
@@ -29,8 +29,13 @@ const MOST_DEPTH: u32 = 20_000; // the greatest depth between two levels, in mm
 
 const PAIR: usize = 2; // the place of a depth between two levels
 
+// The bits of a binary32's pattern, below that of its sign.
+const EXPONENT: Field = Field { high: 30, low: 23 };
+
+const MANTISSA: Field = Field { high: 22, low: 0 };
+
 // The depth that a reading gives, or why it gives none.
-pub fn depth(reading: Reading) -> Amount
+pub fn depth(reading: Reading) -> Result<u32, Refusal>
     ensures { amount result ≡ depth reading }
 {
     match reading {
@@ -41,85 +46,83 @@ pub fn depth(reading: Reading) -> Amount
 }
 
 // The answer to a reading that is missing.
-pub fn missing() -> Amount
+pub fn missing() -> Result<u32, Refusal>
     ensures { amount result ≡ depth Missing }
 {
-    refuse_amount(READING_MISSING, 0)
+    refuse(Reason::ReadingMissing, 0)
 }
 
 // The depth of a core. It is a level as well: its millimetres too are those above the lowest
 // level, less the lowest level's. What lies in a range is finite, so the range is tested first.
-pub fn core(x: f32) -> Amount
+#[tactic(auto, using(crate::proofs::Lowest::depths), unfolding(crate::specs::Depth::core))]
+pub fn core(x: f32) -> Result<u32, Refusal>
     ensures { amount result ≡ core x }
 {
-    if in_range(x, 0.0, MOST_CORE) {
-        return Amount::Value(mm_above_lowest(x) - LOWEST_MM);
+    if in_core(x) {
+        return Ok(mm_above_lowest(x) - LOWEST_MM);
     }
     if !is_finite(x) {
-        return refuse_amount(NOT_FINITE, 0);
+        return refuse(Reason::NotFinite, 0);
     }
-    refuse_amount(OUT_OF_RANGE, 0)
+    refuse(Reason::OutOfRange, 0)
 }
 
 // The depth between a pair of levels.
-pub fn levels(surface: f32, base: f32) -> Amount
+#[tactic(auto, using(crate::proofs::Lowest::pairs))]
+pub fn levels(surface: f32, base: f32) -> Result<u32, Refusal>
     ensures { amount result ≡ levels surface base }
 {
-    if !in_level(surface) {
-        return refuse_pair(surface, base);
-    }
-    if !in_level(base) {
+    if !in_level(surface) || !in_level(base) {
         return refuse_pair(surface, base);
     }
     let s = mm_above_lowest(surface);
     let b = mm_above_lowest(base);
-    if s < b {
-        return refuse_amount(OUT_OF_RANGE, PAIR);
+    if s < b || MOST_DEPTH < s - b {
+        return refuse(Reason::OutOfRange, PAIR);
     }
-    if MOST_DEPTH < s - b {
-        return refuse_amount(OUT_OF_RANGE, PAIR);
-    }
-    Amount::Value(s - b)
+    Ok(s - b)
 }
 
 // The answer to a pair of which one at least is not a level. A number that is not finite is refused
 // before a level that is out of range, whichever it is.
-fn refuse_pair(surface: f32, base: f32) -> Amount
+#[tactic(auto, using(crate::proofs::Lowest::depths), unfolding(crate::specs::Depth::levels))]
+fn refuse_pair(surface: f32, base: f32) -> Result<u32, Refusal>
     requires { in_level surface ≡ true → in_level base ≡ false }
     ensures { amount result ≡ levels surface base }
 {
     if !is_finite(surface) {
-        return refuse_amount(NOT_FINITE, 0);
+        return refuse(Reason::NotFinite, 0);
     }
     if !is_finite(base) {
-        return refuse_amount(NOT_FINITE, 1);
+        return refuse(Reason::NotFinite, 1);
     }
     if !in_level(surface) {
-        return refuse_amount(OUT_OF_RANGE, 0);
+        return refuse(Reason::OutOfRange, 0);
     }
-    refuse_amount(OUT_OF_RANGE, 1)
+    refuse(Reason::OutOfRange, 1)
 }
 
 // Neither a NaN nor an infinity: strictly between the two infinities.
 fn is_finite(x: f32) -> bool
     ensures { result ≡ is_finite x }
 {
-    if x < f32::from_bits(0x7f80_0000) {
-        return f32::from_bits(0xff80_0000) < x;
-    }
-    false
+    x < f32::INFINITY && f32::NEG_INFINITY < x
 }
 
 // Whether x lies in low to high, whole numbers of metres, ends included; -0 is 0, and no NaN lies
 // there.
+#[tactic(auto, using(crate::proofs::Order::range_is))]
 fn in_range(x: f32, low: f32, high: f32) -> bool
     requires { Ends low high }
     ensures { result ≡ in_range (numerator low) (numerator high) x }
 {
-    if low <= x {
-        return x <= high;
-    }
-    false
+    low <= x && x <= high
+}
+
+fn in_core(x: f32) -> bool
+    ensures { result ≡ in_core x }
+{
+    in_range(x, 0.0, MOST_CORE)
 }
 
 fn in_level(x: f32) -> bool
@@ -135,15 +138,15 @@ fn mm_above_lowest(x: f32) -> u32
     requires { in_level x ≡ true }
     ensures { pos result ≡ mm x +ℤ pos lowest_mm }
 {
-    let pattern = f32::to_bits(x);
-    let exponent = words::bits(pattern, 30, 23);
+    let pattern = x.to_bits();
+    let exponent = EXPONENT.of(pattern);
     // below a millimetre by far, subnormals too: a shift by 64 or more is not defined
     if exponent < 87 {
         return if x < 0.0 { LOWEST_MM - 1 } else { LOWEST_MM };
     }
-    let mantissa = words::bits(pattern, 22, 0) + 0x80_0000;
+    let mantissa = MANTISSA.of(pattern) + 0x80_0000;
     let places = 150 - exponent;
-    let n = 1000 * mantissa as u64;
+    let n = 1000 * u64::from(mantissa);
     if x < 0.0 {
         return LOWEST_MM - 1 - (((n - 1) >> places) as u32);
     }

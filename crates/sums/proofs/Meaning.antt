@@ -5,6 +5,7 @@ use mathlib.Core.List.{List, [], ◌∷◌}
 use Prim.Native.Nat.{ℕ, zero, suc, ◌*◌, ◌≤◌}
 use native.Mathlib.Nat.{mul-le-mul, suc-mul, le_refl}
 use native.Mathlib.Omega.{arith}
+use lib.Dec.{leb}
 use lib.ListN.{length, replicate}
 use borrow.Author.Tests.{leb-true}
 use Rattle.sums.specs.Sums.{weighted, sum, all_at_most}
@@ -20,8 +21,8 @@ unfolding weighted all_at_most
 weighted_le m k [] v hw hv = omega arith
 weighted_le m k (x ∷ w) [] hw hv = omega arith
 weighted_le m k (x ∷ w) (y ∷ v) hw hv =
-    let ws = (and-eq-true_iff _ _).0 hw in
-    let vs = (and-eq-true_iff _ _).0 hv in
+    let ws : (leb x m ≡ true) × (all_at_most m w ≡ true) = (and-eq-true_iff _ _).0 hw in
+    let vs : (leb y k ≡ true) × (all_at_most k v ≡ true) = (and-eq-true_iff _ _).0 hv in
     rw (suc-mul (length v) (m * k)) (omega (arith, mul-le-mul (leb-true x m ws.0) (leb-true y k vs.0), weighted_le m k w v ws.1 vs.1))
 
 -- ---- ones for weights, at least as many as there are values

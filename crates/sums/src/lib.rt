@@ -6,15 +6,14 @@ ghost use Rattle.std.specs.Prelude.{◌≡◌, ◌^◌, ◌<◌, ◌≤◌, leng
 ghost use Rattle.sums.specs.Sums.{weighted, all_at_most};
 
 // Each value times the weight at its place, added up. Weights past the last value count for nothing.
+#[tactic(auto, using(crate::proofs::Steps::weighted_here, crate::proofs::Steps::weighted_end))]
 pub fn weighted_sum(weights: &[u32], values: &[u32]) -> u64
     requires { (length values.now ≤ length weights.now) × (weighted weights.now values.now < 2 ^ 64) }
     ensures { result ≡ weighted weights.now values.now }
 {
     let mut sum: u64 = 0;
-    let mut i: usize = 0;
-    while i < values.len() {
-        sum += weights[i] as u64 * values[i] as u64;
-        i += 1;
+    for (i, &value) in values.iter().enumerate() {
+        sum += u64::from(weights[i]) * u64::from(value);
     }
     sum
 }
@@ -22,12 +21,5 @@ pub fn weighted_sum(weights: &[u32], values: &[u32]) -> u64
 pub fn all_at_most(most: u32, values: &[u32]) -> bool
     ensures { result ≡ all_at_most most values.now }
 {
-    let mut i: usize = 0;
-    while i < values.len() {
-        if most < values[i] {
-            return false;
-        }
-        i += 1;
-    }
-    true
+    values.iter().all(|&value| value <= most)
 }

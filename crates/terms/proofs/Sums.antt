@@ -6,15 +6,15 @@ use Prim.Native.Nat.{ℕ, zero, suc, ◌+◌, ◌-◌, ◌*◌, ◌^◌, ◌≤�
 use native.Mathlib.Numerals.{add-one}
 use native.Mathlib.Omega.{arith}
 use lib.Dec.{leb}
-use lib.ListN.{length, get_or, take, drop, length-take, length-drop, drop_of_length-le}
-use lib.Seq.{drop-cons, get_or-drop}
+use lib.ListN.{length, get_or, take, drop, length-take, length-drop}
+use lib.Seq.{get_or-drop}
 use lib.IntN.{ℤ, pos, nat_abs, ◌+ℤ◌, +ℤ_assoc, +ℤ_idl, +ℤ_idr}
-use mir.Syntax.{w32, w64}
+use mir.Syntax.{w64}
 use mir.Val.{SFits, to_z, of_z}
 use borrow.Author.Tests.{le-leb, lt-leb}
 use Rattle.words.specs.Bits.{bits, at_least_0}
 use Rattle.words.proofs.Fields.{field_below}
-use Rattle.words.proofs.Signed.{by_test, size_add, size_part, at_least_0_add, cast_fits, cast_reads, add_fits, add_reads, Halved, signed_size, signed_most}
+use Rattle.words.proofs.Signed.{by_test, size_add, at_least_0_add, add_fits, add_reads, Halved, signed_size, signed_most}
 use Rattle.fields.specs.Fields.{year_of, term_of, tonnes_of, yearly_term_of}
 use Rattle.fields.specs.Words.{most_term, most_term_tonnes, most_term_tonnes_below}
 use Rattle.fields.specs.declared.YearlyTerm.{YearlyTerm}
@@ -62,34 +62,6 @@ counted_later : (year last w : ℕ) → year < year_of w → counted year last w
 unfolding counted
 counted_later year last w h = rw (lt-leb (year_of w) year h)
 
--- t is what `fields::yearly_term_of` answered for the word
-module _ (w : ℕ) (t : YearlyTerm) (e : t ≡ yearly_term_of w) where
-  narrow : to_z w32 (of_z w32 t.tonnes) ≡ tonnes_of w
-  unfolding yearly_term_of
-  narrow = cast_reads w32 (tonnes_of w) (ap (λ (u : YearlyTerm). u.tonnes) e) (omega (arith, tonnes_size w))
-
-  pub tonnes_fit : SFits w64 (to_z w32 (of_z w32 t.tonnes))
-  tonnes_fit = cast_fits w64 (tonnes_of w) narrow (omega (arith, tonnes_size w))
-
-  pub tonnes_are : to_z w64 (of_z w64 (to_z w32 (of_z w32 t.tonnes))) ≡ tonnes_of w
-  tonnes_are = cast_reads w64 (tonnes_of w) narrow (omega (arith, tonnes_size w))
-
-  pub year_is : t.year ≡ year_of w
-  unfolding yearly_term_of
-  year_is = ap (λ (u : YearlyTerm). u.year) e
-
-  term_is : t.term ≡ term_of w
-  unfolding yearly_term_of
-  term_is = ap (λ (u : YearlyTerm). u.term) e
-
-  pub within_last : (last : ℕ) → t.term ≤ last → tonnes_of w ≡ up_to last w
-  unfolding up_to
-  within_last last h = rw (le-leb (term_of w) last (omega (arith, term_is)))
-
-  pub after_last : (last : ℕ) → last < t.term → pos 0 ≡ up_to last w
-  unfolding up_to
-  after_last last h = rw (lt-leb (term_of w) last (omega (arith, term_is)))
-
 -- ---- their sum, by a size that a sum does not exceed: nat_abs for a bound on both sides, at_least_0 for one above
 
 total_bound : (size : ℤ → ℕ) → size (pos 0) ≡ 0 → ((x y : ℤ) → size (x +ℤ y) ≤ size x + size y) →
@@ -135,20 +107,24 @@ module _ (l : List ℕ) (year start : ℕ) where
         let e : high ≡ low = omega arith in
         rw e at s
 
-    -- by the year of a word m between them
-    module _ (a : Accepted l) (e : start ≡ (offsets l).terms) (m : ℕ) (p : low ≤ m) (q : m < high) where
-      pub split_above : year_of (get_or l m 0) ≤ year → Split l year start (m + 1) high
+    -- by the year of a word m between them; t is what `YearlyTerm::from` gave of it
+    module _ (a : Accepted l) (e : start ≡ (offsets l).terms) (m : ℕ) (p : low ≤ m) (q : m < high) (t : YearlyTerm) (r : t ≡ yearly_term_of (get_or l m 0)) where
+      pub split_above : t.year ≤ year → Split l year start (m + 1) high
+      unfolding yearly_term_of
       split_above h =
           let o = s.ordered in
+          let here = rw r at h in
           let first : (k : ℕ) → start ≤ k → k < m + 1 → year_of (get_or l k 0) ≤ year = λ k u v.
-          omega (arith, years_rise l a k m (omega arith) (omega arith) (omega arith)) in
+          omega (arith, here, years_rise l a k m (omega arith) (omega arith) (omega arith)) in
           record { ordered = (omega arith, omega arith, omega arith); before = first; after = s.after }
 
-      pub split_below : year < year_of (get_or l m 0) → Split l year start low m
+      pub split_below : year < t.year → Split l year start low m
+      unfolding yearly_term_of
       split_below h =
           let o = s.ordered in
+          let here = rw r at h in
           let last : (k : ℕ) → m ≤ k → k < length l → year < year_of (get_or l k 0) = λ k u v.
-          omega (arith, years_rise l a m k (omega arith) u v) in
+          omega (arith, here, years_rise l a m k (omega arith) u v) in
           record { ordered = (omega arith, omega arith, omega arith); before = s.before; after = last }
 
   module _ (f g : ℕ → ℤ) {end : ℕ} (s : Split l year start end end) where
@@ -182,40 +158,21 @@ module _ (l : List ℕ) (year : ℕ) (a : Accepted l) {start end : ℕ} (e : sta
   pub first_most : length (take (end - start) (drop start l)) ≤ most_term_words
   first_most = omega (arith, length-take (end - start) (drop start l), length-drop start l, terms_at_most l a)
 
--- ---- a sum has come to word `at` and to x: x and what is left make the whole
-pub record Part (f : ℕ → ℤ) (l : List ℕ) (at : ℕ) (x : ℤ) : Type 0 where
-  pub makes : x +ℤ total f (drop at l) ≡ total f l
+-- ---- the sum of the first words, and of one more
+total_next : (f : ℕ → ℤ) (at : ℕ) (ws : List ℕ) → at < length ws → total f (take (suc at) ws) ≡ total f (take at ws) +ℤ f (get_or ws at 0)
+unfolding total
+total_next f at [] h = absurd (omega arith)
+total_next f zero (w ∷ ws) h = +ℤ_idr (f w) ∙ sym (+ℤ_idl (f w))
+total_next f (suc n) (w ∷ ws) h = ap (λ z. f w +ℤ z) (total_next f n ws (omega arith)) ∙ sym (+ℤ_assoc (f w) (total f (take n ws)) (f (get_or ws n 0)))
 
-pub part_none : {f : ℕ → ℤ} {l : List ℕ} → Part f l 0 (pos 0)
-part_none {f} {l} = record { makes = +ℤ_idl (total f l) }
+module _ (f : ℕ → ℤ) (size : (w : ℕ) → nat_abs (f w) ≤ most_term_tonnes_below) (l : List ℕ) (most : length l ≤ most_term_words) (at : ℕ) where
+  fits : nat_abs (total f (take at l)) + nat_abs (f (get_or l at 0)) < 2 ^ 63
+  fits = omega (arith, total_size f size (take at l) (omega (arith, length-take at l)), size (get_or l at 0))
 
-module _ {f : ℕ → ℤ} {l : List ℕ} {at : ℕ} {x : ℤ} (p : Part f l at x) where
-  abbrev here : ℤ
-  here = f (get_or l at 0)
+  -- an iteration that adds y, what a call gave for word `at`, to x
+  module _ {x y : ℤ} (p : x ≡ total f (take at l)) (q : y ≡ f (get_or l at 0)) where
+    pub sum_fits : SFits w64 (x +ℤ y)
+    sum_fits = add_fits w64 (total f (take at l)) p (f (get_or l at 0)) q fits
 
-  part_more : at < length l → Part f l (at + 1) (x +ℤ here)
-  unfolding total
-  part_more h = record { makes = rw add-one (+ℤ_assoc x here (total f (drop (suc at) l)) ∙ ap (λ ws. x +ℤ total f ws) (sym (drop-cons l at 0 h)) ∙ p.makes) }
-
-  pub part_end : length l ≤ at → x ≡ total f l
-  unfolding total
-  part_end h = sym (+ℤ_idr x) ∙ ap (λ ws. x +ℤ total f ws) (sym (drop_of_length-le l {i = at} h)) ∙ p.makes
-
-  -- an iteration that adds y, what a call gave for word `at`
-  module _ {y : ℤ} (q : y ≡ here) (size : (w : ℕ) → nat_abs (f w) ≤ most_term_tonnes_below) (in_range_lem : (at < length l) × (length l ≤ most_term_words)) where
-    fits : nat_abs x + nat_abs here < 2 ^ 63
-    fits =
-        omega (
-          arith,
-          size_part x (total f (drop at l)),
-          ap nat_abs p.makes,
-          total_size f size (drop at l) (omega (arith, length-drop at l, in_range_lem.1)),
-          total_size f size l in_range_lem.1,
-          size (get_or l at 0),
-        )
-
-    pub part_adds : SFits w64 (x +ℤ y)
-    part_adds = add_fits w64 x refl here q fits
-
-    pub part_next : Part f l (at + 1) (to_z w64 (of_z w64 (x +ℤ y)))
-    part_next = rw (add_reads w64 x refl here q fits) (part_more in_range_lem.0)
+    pub sum_next : at < length l → to_z w64 (of_z w64 (x +ℤ y)) ≡ total f (take (at + 1) l)
+    sum_next h = rw add-one (add_reads w64 (total f (take at l)) p (f (get_or l at 0)) q fits ∙ sym (total_next f at l h))

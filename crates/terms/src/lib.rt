@@ -4,30 +4,33 @@
 ghost use Rattle.std.specs.Prelude.{◌≡◌, ◌≤◌, length};
 ghost use Rattle.fields.specs.Fields.{tonnes_of};
 ghost use Rattle.listing.specs.Layout.{most_term_words, offsets};
-ghost use Rattle.listing.specs.Accepted.{Accepted};
 ghost use Rattle.terms.specs.Terms.{total, terms_to_date};
 ghost use Rattle.terms.specs.Split.{up_to, Split};
+
+use fields::YearlyTerm;
+use listing::Listing;
 
 // The last term that the buffer percentage is taken of.
 const LAST_BUFFERED: u32 = 5;
 
 // The terms to date: all of them, for N, and those up to 5, for S. Peat, term 2, is not among them.
-#[derive(Clone, Copy)]
+#[derive(Clone, Copy, Debug, PartialEq, Eq)]
 pub struct TermSums {
     pub all: i64,
     pub buffered: i64,
 }
 
 // Where the terms of the years 1 to `year` end: terms rise by year, so that these come first.
-fn end_of_terms_to_date(listing: &[u32], start: usize, year: u32) -> usize
-    requires { Accepted listing.now × (start ≡ (offsets listing.now).terms) }
-    ensures { Split listing.now year start result result }
+// `partition_point` of the library takes longer: it has a jump more for a word that it tests.
+fn end_of_terms_to_date(listing: &Listing<'_>, start: usize, year: u32) -> usize
+    requires { start ≡ (offsets listing.now.words.now).terms }
+    ensures { Split listing.now.words.now year start result result }
 {
     let mut low = start;
-    let mut high = listing.len();
+    let mut high = listing.words.len();
     while low < high {
         let middle = low + (high - low) / 2;
-        if fields::yearly_term_of(listing[middle]).year <= year {
+        if YearlyTerm::from(listing.words[middle]).year <= year {
             low = middle + 1;
         } else {
             high = middle;
@@ -40,14 +43,14 @@ fn end_of_terms_to_date(listing: &[u32], start: usize, year: u32) -> usize
 fn tonnes(w: u32) -> i64
     ensures { result ≡ tonnes_of w }
 {
-    fields::yearly_term_of(w).tonnes as i64
+    i64::from(YearlyTerm::from(w).tonnes)
 }
 
 // The same, or 0 where it is a term after `last`.
 fn up_to(w: u32, last: u32) -> i64
     ensures { result ≡ up_to last w }
 {
-    if fields::yearly_term_of(w).term <= last {
+    if YearlyTerm::from(w).term <= last {
         return tonnes(w);
     }
     0
@@ -60,22 +63,18 @@ fn term_sums(words: &[u32]) -> TermSums
 {
     let mut all: i64 = 0;
     let mut buffered: i64 = 0;
-    let mut at: usize = 0;
-    while at < words.len() {
-        all += tonnes(words[at]);
-        buffered += up_to(words[at], LAST_BUFFERED);
-        at += 1;
+    for &word in words {
+        all += tonnes(word);
+        buffered += up_to(word, LAST_BUFFERED);
     }
     TermSums { all, buffered }
 }
 
 // The terms of the years 1 to `year`.
-pub fn terms_to_date(listing: &[u32], year: u32) -> TermSums
-    requires { Accepted listing.now }
-    ensures { (result.all ≡ terms_to_date listing.now year 8) × (result.buffered ≡ terms_to_date listing.now year 5) }
+pub fn terms_to_date(listing: &Listing<'_>, year: u32) -> TermSums
+    ensures { (result.all ≡ terms_to_date listing.now.words.now year 8) × (result.buffered ≡ terms_to_date listing.now.words.now year 5) }
 {
-    let s = listing::offsets_of(listing::head(listing));
-    let start = s.terms;
+    let start = listing.offsets().terms;
     let end = end_of_terms_to_date(listing, start, year);
-    term_sums(&listing[start..end])
+    term_sums(&listing.words[start..end])
 }

@@ -1,24 +1,40 @@
 // What the lines of a closing come to over all cells.
 #![tactic(auto)]
 
-ghost use Rattle.std.specs.Prelude.{◌≡◌, ◌^◌, ◌<◌, ◌≤◌, length};
-ghost use Rattle.book.specs.Layout.{line_words};
-ghost use Rattle.totals.specs.Totals.{line_total};
+ghost use Rattle.std.specs.Prelude.{◌≡◌, ◌^◌, ◌≤◌, length};
+ghost use Rattle.totals.specs.Totals.{line_place, line_total};
 
 use book::LINE_WORDS;
-use words::bits;
+use words::PAYLOAD;
 
-// The numbers of one line of each cell, added: line 0 has mm oxidised, 1 mm burned, 2 kg.
-pub fn line_total(lines: &[u32], line: usize) -> u64
-    requires { (line < line_words) × (length lines.now ≤ 2 ^ 32) }
-    ensures { result ≡ line_total lines.now line }
+// The three lines of a cell, in their order.
+#[derive(Clone, Copy, Debug, PartialEq, Eq)]
+pub enum Line {
+    Oxidised,
+    Burned,
+    Kg,
+}
+
+impl Line {
+    // Its place among a cell's lines.
+    pub fn place(self) -> usize
+        ensures { result ≡ line_place self }
+    {
+        self as usize
+    }
+}
+
+// The numbers of one line of each cell, added.
+#[tactic(auto, using(crate::proofs::Lines::place_below))]
+pub fn line_total(lines: &[u32], line: Line) -> u64
+    requires { length lines.now ≤ 2 ^ 32 }
+    ensures { result ≡ line_total lines.now (line_place line) }
 {
-    let cells = lines.len() / LINE_WORDS;
+    let place = line.place();
+    let (cells, _) = lines.as_chunks::<LINE_WORDS>();
     let mut sum: u64 = 0;
-    let mut i: usize = 0;
-    while i < cells {
-        sum += bits(lines[LINE_WORDS * i + line], 27, 0) as u64;
-        i += 1;
+    for cell in cells {
+        sum += u64::from(PAYLOAD.of(cell[place]));
     }
     sum
 }

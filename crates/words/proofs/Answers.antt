@@ -8,14 +8,24 @@ use lib.Dec.{ltb, leb}
 use borrow.Author.Tests.{lt-ltb, le-ltb, lt-leb, le-leb, ltb-true, ltb-false, leb-true}
 use Rattle.words.specs.Bits.{within}
 use Rattle.words.specs.Search.{first_invalid}
-use Rattle.words.specs.Answers.{Answer, refused, outcome, need, need_none, need_all, after}
+use Rattle.std.specs.Prelude.{Result, Err}
+use Rattle.std.specs.Result.{IsErrAnd}
+use Rattle.std.proofs.lemmas.Result.{err_from_is_err_and}
+use Rattle.words.specs.Answers.{Answer, accepted, refused, answer_of, need, need_none, need_all, after}
+use Rattle.words.specs.Refusals.{number_of}
 use Rattle.words.specs.declared.Refusal.{Refusal}
-use Rattle.words.specs.declared.Outcome.{Outcome}
-use Rattle.words.specs.declared.Outcome.TheVariants.{Done, Refused}
 use Rattle.words.proofs.Meaning.{valid_before, first_only, none_either}
 use Rattle.words.proofs.Signed.{by_test}
 
 -- ---- forwards: v is what a function returns, as an answer
+
+-- what `refuse` gave
+pub refused_by : {A : Type 0} (value : A → ℕ) (v : Result A Refusal) {r : Refusal} → v ≡ Err r → answer_of value v ≡ refused (number_of r.reason) r.place
+refused_by value v e = ap (answer_of value) e
+
+-- and what a `?` gives on
+pub refused_on : {B : Type 0} (value : B → ℕ) (v : Result B Refusal) (r : Refusal) (a : Answer) → IsErrAnd v (λ e. e ≡ r) → refused (number_of r.reason) r.place ≡ a → answer_of value v ≡ a
+refused_on value v r a is q = let p = err_from_is_err_and v is in rw (p.1, p.2) q
 
 -- a test that failed, and one that held
 pub need_failed : (ok : Bool) (n k : ℕ) (next v : Answer) → ok ≡ false → v ≡ refused n k → v ≡ need ok n k next
@@ -44,17 +54,28 @@ unfolding need_none
 found_none n place p end next v e h q =
     q ∙ ap (λ (b : Bool). cond b (refused n place) next) (sym (le-ltb place end h)) ∙ ap (λ (x : ℕ). cond (ltb x end) (refused n x) next) e
 
--- the tests before, whose outcome is o: refused, and passed
-pub after_refused : (o : Outcome) (before next : Answer) (r : Refusal) → outcome o ≡ before → o ≡ Refused r → outcome (Refused r) ≡ after before next
+-- the tests before, whose answer is known: a refusal, which is the answer, and that they were passed
+pub after_first : (n k : ℕ) (before next : Answer) → refused n k ≡ before → refused n k ≡ after before next
 unfolding after
-after_refused o before next r e d = ap (λ (a : Answer). cond a.done next a) (ap outcome (sym d) ∙ e)
+after_first n k before next e = ap (λ (a : Answer). cond a.done next a) e
 
-pub after_done : (o : Outcome) (before next v : Answer) → outcome o ≡ before → o ≡ Done → v ≡ next → v ≡ after before next
+pub after_next : (x : ℕ) (before next v : Answer) → accepted x ≡ before → v ≡ next → v ≡ after before next
 unfolding after
-after_done o before next v e d q = q ∙ ap (λ (a : Answer). cond a.done next a) (ap outcome (sym d) ∙ e)
+after_next x before next v e q = q ∙ ap (λ (a : Answer). cond a.done next a) e
+
+-- a test whose answer is known: a refusal, which is the answer whatever follows, and that it was passed
+pub need_stops : (ok : Bool) (n k : ℕ) (next : Answer) (m j : ℕ) → refused m j ≡ need ok n k (accepted 0) → refused m j ≡ need ok n k next
+unfolding need
+need_stops true n k next m j e = absurd (false≢true (ap (λ (a : Answer). a.done) e))
+need_stops false n k next m j e = e
+
+pub need_passes : (ok : Bool) (n k : ℕ) (next v : Answer) (x : ℕ) → accepted x ≡ need ok n k (accepted 0) → v ≡ next → v ≡ need ok n k next
+unfolding need
+need_passes true n k next v x e q = q
+need_passes false n k next v x e q = absurd (false≢true (ap (λ (a : Answer). a.done) (sym e)))
 
 -- what a return's answer is found from
-pub ruleset answers = (need_failed, need_next, flag_false, flag_true, found, found_none, after_refused, after_done, lt-leb, le-leb, lt-ltb, le-ltb)
+pub ruleset answers = (refused_by, need_failed, need_next, flag_false, flag_true, found, found_none, lt-leb, le-leb, lt-ltb, le-ltb)
 
 -- ---- backwards: an answer that is accepted failed no test
 

@@ -1,14 +1,15 @@
--- What a call leaves, by the outcome o of its tests: `a` is their answer. Assumes nothing.
+-- What a call leaves, by the answer of its tests. Assumes nothing.
 use mathlib.Core.Path.{◌≡◌, refl, sym, ap, ◌∙◌}
 use mathlib.Core.Bool.{Bool, true, false, cond}
 use mathlib.Core.List.{List, []}
 use Prim.Native.Nat.{ℕ}
-use Rattle.words.specs.Answers.{Answer, refused, outcome, after}
-use Rattle.words.specs.Effect.{Effect, effect, written, commit}
+use Rattle.std.specs.Prelude.{Result}
+use Rattle.std.specs.Result.{IsErrAnd}
+use Rattle.words.specs.Answers.{Answer, accepted, refused, answer_of}
+use Rattle.words.specs.Effect.{Effect, effect, written, commit, commit_both}
+use Rattle.words.specs.Refusals.{number_of}
 use Rattle.words.specs.declared.Refusal.{Refusal}
-use Rattle.words.specs.declared.Outcome.{Outcome}
-use Rattle.words.specs.declared.Outcome.TheVariants.{Done, Refused}
-use Rattle.words.proofs.Answers.{cond_both}
+use Rattle.words.proofs.Answers.{cond_both, refused_on}
 
 -- ---- a slice after a call that was accepted, and after one that was not
 
@@ -42,45 +43,35 @@ module _ {a : Answer} {b x : List ℕ} {m : Effect} (e : effect a b x ≡ m) whe
 pub effect_same : (a a' : Answer) (b b' x x' : List ℕ) → a ≡ a' → b ≡ b' → x ≡ x' → effect a b x ≡ effect a' b' x'
 effect_same a a' b b' x x' p q r = rw (p, q, r)
 
-module _ (o : Outcome) (a : Answer) (e : outcome o ≡ a) where
-  -- passed: the slice holds what was written
-  module _ (d : o ≡ Done) where
-    pub passed_answer : outcome Done ≡ a
-    passed_answer = ap outcome (sym d) ∙ e
-
-    pub passed_done : a.done ≡ true
-    passed_done = ap (λ (x : Answer). x.done) (sym passed_answer)
+-- a is the answer of the tests before
+module _ (a : Answer) where
+  -- they were passed: the slice holds what was written
+  module _ (x : ℕ) (e : accepted x ≡ a) where
+    passed_done : a.done ≡ true
+    passed_done = ap (λ (n : Answer). n.done) (sym e)
 
     pub passed_written : (old new now : List ℕ) → now ≡ new → now ≡ written a old new
     passed_written old new now q = q ∙ sym (written_new a old new passed_done)
 
-    pub commit_done : (old new now : List ℕ) → now ≡ new → effect (outcome Done) now [] ≡ commit a old new
-    commit_done old new now q = effect_same _ a _ _ [] [] passed_answer (passed_written old new now q) refl
+    pub commit_passed : (old new now : List ℕ) → now ≡ new → effect (accepted x) now [] ≡ commit a old new
+    commit_passed old new now q = effect_same _ a _ _ [] [] e (passed_written old new now q) refl
 
-    -- and the answer that follows
-    pub passed_next : (v next : Answer) → v ≡ next → v ≡ after a next
-    unfolding after
-    passed_next v next q = q ∙ ap (λ (t : Bool). cond t next a) (sym passed_done)
+    pub commit_both_passed : (old new now old_output new_output output : List ℕ) → now ≡ new → output ≡ new_output →
+        effect (accepted x) now output ≡ commit_both a old new old_output new_output
+    commit_both_passed old new now old_output new_output output p q =
+        effect_same _ a _ _ _ _ e (passed_written old new now p) (passed_written old_output new_output output q)
 
-    pub passed_next_written : (next : Answer) → next.done ≡ true → (old new now : List ℕ) → now ≡ new → now ≡ written (after a next) old new
-    passed_next_written next done old new now q = q ∙ sym (written_new (after a next) old new (ap (λ (x : Answer). x.done) (sym (passed_next next next refl)) ∙ done))
-
-  -- refused: it holds what it held
-  module _ (r : Refusal) (d : o ≡ Refused r) where
-    pub refused_answer : outcome (Refused r) ≡ a
-    refused_answer = ap outcome (sym d) ∙ e
-
+  -- one refused, and v is what a `?` gives on: the slice holds what it held
+  module _ {B : Type 0} (value : B → ℕ) (v : Result B Refusal) (r : Refusal) (is : IsErrAnd v (λ d. d ≡ r)) (e : refused (number_of r.reason) r.place ≡ a) where
     refused_done : a.done ≡ false
-    refused_done = ap (λ (x : Answer). x.done) (sym refused_answer)
+    refused_done = ap (λ (n : Answer). n.done) (sym e)
 
     pub refused_written : (old new : List ℕ) → old ≡ written a old new
     refused_written old new = sym (written_old a old new refused_done)
 
-    pub refused_next : (next : Answer) → refused r.number r.place ≡ after a next
-    unfolding after
-    refused_next next = refused_answer ∙ ap (λ (t : Bool). cond t next a) (sym refused_done)
+    pub commit_refused : (old new : List ℕ) → effect (answer_of value v) old [] ≡ commit a old new
+    commit_refused old new = effect_same _ a _ _ [] [] (refused_on value v r a is e) (refused_written old new) refl
 
-    pub refused_next_written : (next : Answer) (old new : List ℕ) → old ≡ written (after a next) old new
-    refused_next_written next old new = sym (written_old (after a next) old new (ap (λ (x : Answer). x.done) (sym (refused_next next))))
-
-pub ruleset commits = (effect_same, passed_answer, passed_written, passed_next, passed_next_written, refused_answer, refused_written, refused_next, refused_next_written, refl)
+    pub commit_both_refused : (old new old_output new_output : List ℕ) → effect (answer_of value v) old old_output ≡ commit_both a old new old_output new_output
+    commit_both_refused old new old_output new_output =
+        effect_same _ a _ _ _ _ (refused_on value v r a is e) (refused_written old new) (refused_written old_output new_output)

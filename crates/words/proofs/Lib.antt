@@ -5,5 +5,6 @@ pub mod Steps
 pub mod Meaning
 pub mod Answers
 pub mod Blocks
+pub mod Chunks
 pub mod Sums
 pub mod Effect

@@ -1,10 +1,8 @@
 -- What a call answers, in document 01's own numbers, put together from tests: the first that fails is the answer.
-use Rattle.std.specs.Prelude.{ℕ, Bool, true, false, cond, ltb}
+use Rattle.std.specs.Prelude.{ℕ, Bool, true, false, cond, ltb, Result, Ok, Err}
 use Rattle.words.specs.Search.{first_invalid}
-use Rattle.words.specs.declared.Outcome.{Outcome}
-use Rattle.words.specs.declared.Outcome.TheVariants.{Done, Refused}
-use Rattle.words.specs.declared.Amount.{Amount}
-use Rattle.words.specs.declared.Amount.TheVariants as amounts
+use Rattle.words.specs.Refusals.{number_of}
+use Rattle.words.specs.declared.Refusal.{Refusal}
 
 -- a call that is accepted (`done`) answers number 0 at place 0 and its value; a refused one its number and place and the value 0
 pub record Answer : Type 0 where
@@ -19,15 +17,18 @@ accepted v = record { done = true; number = 0; place = 0; value = v }
 abbrev pub refused : ℕ → ℕ → Answer
 refused n k = record { done = false; number = n; place = k; value = 0 }
 
--- the cases of an outcome; it has no value
-abbrev pub outcome : Outcome → Answer
-outcome Done = accepted 0
-outcome (Refused r) = refused r.number r.place
+-- the cases of an answer whose value is worked out by `value`
+abbrev pub answer_of : {A : Type 0} → (A → ℕ) → Result A Refusal → Answer
+answer_of value (Ok v) = accepted (value v)
+answer_of value (Err r) = refused (number_of r.reason) r.place
 
--- the cases of an amount
-abbrev pub amount : Amount → Answer
-amount (amounts.Value v) = accepted v
-amount (amounts.Refused r) = refused r.number r.place
+-- an answer whose value is not a number counts as 0
+abbrev pub outcome : {A : Type 0} → Result A Refusal → Answer
+outcome r = answer_of (λ _. 0) r
+
+-- and one that is a number: tonnes, mm or ten-thousandths
+abbrev pub amount : Result ℕ Refusal → Answer
+amount r = answer_of (λ v. v) r
 
 -- refusal n at place k unless the test holds, and then `next`
 unfoldable pub need : Bool → ℕ → ℕ → Answer → Answer

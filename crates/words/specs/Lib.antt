@@ -1,5 +1,6 @@
 -- What the contracts of words, and of the crates above it, cite.
 pub mod Bits
+pub mod Kinds
 pub mod Search
 pub mod Refusals
 pub mod Answers

@@ -1,6 +1,8 @@
 -- Document 01, "Where a call stops": the number of each refusal, in the table's order, and its place. When each is given is stated in the crate
 -- that tests it.
 use Rattle.std.specs.Prelude.{ℕ}
+use Rattle.words.specs.declared.Reason.{Reason}
+use Rattle.words.specs.declared.Reason.TheVariants as reasons
 
 -- listing: too few words for a head; place 0
 abbrev pub too_few_words : ℕ
@@ -81,3 +83,25 @@ list_lengths = 19
 -- a value too large; the list, 0–3
 abbrev pub value_too_large : ℕ
 value_too_large = 20
+
+-- the number that each reason of the code stands for
+abbrev pub number_of : Reason → ℕ
+number_of reasons.TooFewWords = too_few_words
+number_of reasons.HeadWord = head_word
+number_of reasons.ListingShort = listing_short
+number_of reasons.LaterWord = later_word
+number_of reasons.TermNotAbove = term_not_above
+number_of reasons.BookShort = book_short
+number_of reasons.LinesShort = lines_short
+number_of reasons.BookWord = book_word
+number_of reasons.HorizonReached = horizon_reached
+number_of reasons.NoSuchCell = no_such_cell
+number_of reasons.CellWithdrawn = cell_withdrawn
+number_of reasons.CellConverted = cell_converted
+number_of reasons.YearNotAhead = year_not_ahead
+number_of reasons.OutputShort = output_short
+number_of reasons.NotFinite = not_finite
+number_of reasons.OutOfRange = out_of_range
+number_of reasons.ReadingMissing = reading_missing
+number_of reasons.ListLengths = list_lengths
+number_of reasons.ValueTooLarge = value_too_large

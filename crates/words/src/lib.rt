@@ -1,143 +1,197 @@
 // What every crate of the ledger is made of: a 32-bit word with its kind and its bits, and the
-// refusal of a call with its number and its place.
+// refusal of a call with its reason and its place.
 #![tactic(auto)]
 
-ghost use Rattle.std.specs.Prelude.{◌≡◌, ◌^◌, ◌<◌};
+ghost use Rattle.std.specs.Prelude.{◌≡◌, true, false, ℕ, ◌^◌, ◌<◌, ◌≤◌};
 ghost use Rattle.words.specs.Bits.{bits, signed_bits, is_kind, within, word_of, BitRange};
-ghost use Rattle.words.specs.Answers.{refused, outcome, amount};
+ghost use Rattle.words.specs.Kinds.{kind_of};
+ghost use Rattle.words.specs.Refusals.{number_of};
+ghost use Rattle.words.specs.Answers.{outcome, accepted, need};
 
-// The numbers of document 01, "Where a call stops", in the order of its table; 14 is proved not to arise.
+use std::fmt;
 
-// Listing: too few words for a head; place 0.
-pub const TOO_FEW_WORDS: u32 = 1;
-
-// A word of the head that is invalid; its index.
-pub const HEAD_WORD: u32 = 2;
-
-// Too short for its head; its length.
-pub const LISTING_SHORT: u32 = 3;
-
-// A later word that is invalid; its index.
-pub const LATER_WORD: u32 = 4;
-
-// Term not above the one before; the later index.
-pub const TERM_NOT_ABOVE: u32 = 5;
-
-// Buffers: book too short; its length.
-pub const BOOK_SHORT: u32 = 6;
-
-// Lines too short (close); its length.
-pub const LINES_SHORT: u32 = 7;
-
-// Book: a word that is invalid; its index.
-pub const BOOK_WORD: u32 = 8;
-
-// Call: close at the horizon; place 0.
-pub const HORIZON_REACHED: u32 = 9;
-
-// No such cell (replan, withdraw, statement); place 0.
-pub const NO_SUCH_CELL: u32 = 10;
-
-// Cell withdrawn (replan, withdraw); place 0.
-pub const CELL_WITHDRAWN: u32 = 11;
-
-// Cell converted already (replan); place 0.
-pub const CELL_CONVERTED: u32 = 12;
-
-// New year not ahead (replan); place 0.
-pub const YEAR_NOT_AHEAD: u32 = 13;
-
-// Forecast: output too short; its length.
-pub const OUTPUT_SHORT: u32 = 15;
-
-// Reading: not finite; 0 or 1.
-pub const NOT_FINITE: u32 = 16;
-
-// Out of range; 0, 1 or 2.
-pub const OUT_OF_RANGE: u32 = 17;
-
-// Missing; place 0.
-pub const READING_MISSING: u32 = 18;
-
-// Discount: invalid list lengths; place 0.
-pub const LIST_LENGTHS: u32 = 19;
-
-// A value too large; the list, 0–3.
-pub const VALUE_TOO_LARGE: u32 = 20;
+// Why a call is refused, by the numbers of "Where a call stops", in the order of its table; 14 is proved not
+// to arise.
+#[derive(Clone, Copy, Debug, PartialEq, Eq)]
+pub enum Reason {
+    // Listing: too few words for a head; place 0.
+    TooFewWords = 1,
+    // A word of the head that is invalid; its index.
+    HeadWord = 2,
+    // Too short for its head; its length.
+    ListingShort = 3,
+    // A later word that is invalid; its index.
+    LaterWord = 4,
+    // Term not above the one before; the later index.
+    TermNotAbove = 5,
+    // Buffers: book too short; its length.
+    BookShort = 6,
+    // Lines too short (close); its length.
+    LinesShort = 7,
+    // Book: a word that is invalid; its index.
+    BookWord = 8,
+    // Call: close at the horizon; place 0.
+    HorizonReached = 9,
+    // No such cell (replan, withdraw, statement); place 0.
+    NoSuchCell = 10,
+    // Cell withdrawn (replan, withdraw); place 0.
+    CellWithdrawn = 11,
+    // Cell converted already (replan); place 0.
+    CellConverted = 12,
+    // New year not ahead (replan); place 0.
+    YearNotAhead = 13,
+    // Forecast: output too short; its length.
+    OutputShort = 15,
+    // Reading: not finite; 0 or 1.
+    NotFinite = 16,
+    // Out of range; 0, 1 or 2.
+    OutOfRange = 17,
+    // Missing; place 0.
+    ReadingMissing = 18,
+    // Discount: invalid list lengths; place 0.
+    ListLengths = 19,
+    // A value too large; the list, 0–3.
+    ValueTooLarge = 20,
+}
 
 // Why a call is refused, and where.
-#[derive(Clone, Copy)]
+#[derive(Clone, Copy, Debug, PartialEq, Eq)]
 pub struct Refusal {
-    pub number: u32,
+    pub reason: Reason,
     pub place: usize,
 }
 
-// The answer of a call that returns nothing else.
-#[derive(Clone, Copy)]
-pub enum Outcome {
-    Done,
-    Refused(Refusal),
+// What a word holds, by its bits 31 to 28.
+#[derive(Clone, Copy, Debug, PartialEq, Eq)]
+pub enum Kind {
+    // Of a listing.
+    Size = 1,
+    Figure = 2,
+    Table = 3,
+    Depth = 4,
+    Area = 5,
+    Term = 6,
+    // Of a book.
+    Year = 8,
+    Issued = 9,
+    Plan = 10,
+    Oxidised = 11,
+    Burned = 12,
+    // Of a closing's lines.
+    OxidisedLine = 13,
+    BurnedLine = 14,
+    KgLine = 15,
 }
 
-// The answer of a call that returns a number: tonnes, mm or ten-thousandths.
-#[derive(Clone, Copy)]
-pub enum Amount {
-    Value(u32),
-    Refused(Refusal),
+// Bits `high` to `low` of a word.
+#[derive(Clone, Copy, Debug, PartialEq, Eq)]
+pub struct Field {
+    pub high: u32,
+    pub low: u32,
+    ghost range: { BitRange high low },
 }
 
-// The refusal as an outcome.
-pub fn refuse(number: u32, place: usize) -> Outcome
-    ensures { outcome result ≡ refused number place }
+// The bits of every word: its kind, and what it holds.
+pub const KIND: Field = Field { high: 31, low: 28 };
+
+pub const PAYLOAD: Field = Field { high: 27, low: 0 };
+
+impl Reason {
+    // Its number in the table.
+    pub fn number(self) -> u32
+        ensures { result ≡ number_of self }
+    {
+        self as u32
+    }
+}
+
+impl fmt::Display for Refusal {
+    fn fmt<W: fmt::Write>(&self, f: &mut fmt::Formatter<W>) -> fmt::Result {
+        write!(f, "refused {} {}", self.reason.number(), self.place)
+    }
+}
+
+// The refusal as the answer of a call, whatever its value would be.
+pub fn refuse<T>(reason: Reason, place: usize) -> Result<T, Refusal>
+    ensures { result ≡ Err (record { reason = reason; place = place }) }
 {
-    Outcome::Refused(Refusal { number, place })
+    Err(Refusal { reason, place })
 }
 
-// The refusal as an amount.
-pub fn refuse_amount(number: u32, place: usize) -> Amount
-    ensures { amount result ≡ refused number place }
-{
-    Amount::Refused(Refusal { number, place })
+impl Field {
+    // These bits of `w`, as a number.
+    pub fn of(self, w: u32) -> u32
+        ensures { result ≡ bits w self.high self.low }
+    {
+        (w >> self.low) & ((1u32 << (self.high + 1 - self.low)) - 1)
+    }
+
+    // These bits of `w`, as a two's complement number.
+    pub fn signed_of(self, w: u32) -> i32
+        ensures { result ≡ signed_bits w self.high self.low }
+    {
+        let x = self.of(w);
+        let half = 1u32 << (self.high - self.low);
+        (x ^ half) as i32 - half as i32
+    }
+
+    // Whether these bits of `w` are a number from `least` to `most`.
+    pub fn is_within(self, w: u32, least: u32, most: u32) -> bool
+        ensures { result ≡ within least most (bits w self.high self.low) }
+    {
+        let x = self.of(w);
+        (least <= x) & (x <= most)
+    }
 }
 
-// Bits `high` to `low` of `w`, as a number.
-pub fn bits(w: u32, high: u32, low: u32) -> u32
-    requires { BitRange high low }
-    ensures { result ≡ bits w high low }
-{
-    (w >> low) & ((1u32 << (high + 1 - low)) - 1)
+impl Kind {
+    // Its number, in bits 31 to 28.
+    pub fn number(self) -> u32
+        ensures { result ≡ kind_of self }
+    {
+        self as u32
+    }
+
+    // Whether `w` is of this kind.
+    pub fn is_of(self, w: u32) -> bool
+        ensures { result ≡ is_kind (kind_of self) w }
+    {
+        KIND.of(w) == self.number()
+    }
+
+    // The word of this kind whose bits 27 to 0 are `payload`.
+    pub fn word(self, payload: u32) -> u32
+        requires { payload < 2 ^ 28 }
+        ensures { result ≡ word_of (kind_of self) payload }
+    {
+        (self.number() << 28) | payload
+    }
 }
 
-// Bits `high` to `low` of `w`, as a two's complement number.
-pub fn signed_bits(w: u32, high: u32, low: u32) -> i32
-    requires { BitRange high low }
-    ensures { result ≡ signed_bits w high low }
+// The refusal unless a test holds.
+#[tactic(auto, using(crate::proofs::Answers::need_next, crate::proofs::Answers::need_failed))]
+pub fn need(holds: bool, reason: Reason, place: usize) -> Result<(), Refusal>
+    ensures { outcome result ≡ need holds (number_of reason) place (accepted 0) }
 {
-    let x = bits(w, high, low);
-    let half = 1u32 << (high - low);
-    (x ^ half) as i32 - half as i32
+    if holds {
+        return Ok(());
+    }
+    refuse(reason, place)
 }
 
-// Whether `w` is of a kind, by its bits 31 to 28.
-pub fn is_kind(w: u32, kind: u32) -> bool
-    ensures { result ≡ is_kind kind w }
+// The first place from `from` up to but not `to` that is invalid; where all are valid, `to`.
+pub fn first_invalid<F: Fn(usize) -> bool>(from: usize, to: usize, is_valid: F) -> usize
+    requires ordered { from ≤ to }
+    requires callable { (k : ℕ) → from ≤ k → k < to → F.pre is_valid k }
+    ensures low { from ≤ result }
+    ensures high { result ≤ to }
+    ensures before { (k : ℕ) → from ≤ k → k < result → F.post is_valid k true }
+    ensures invalid { result < to → F.post is_valid result false }
 {
-    bits(w, 31, 28) == kind
-}
-
-// Whether bits `high` to `low` of `w` are a number from `least` to `most`.
-pub fn bits_within(w: u32, high: u32, low: u32, least: u32, most: u32) -> bool
-    requires { BitRange high low }
-    ensures { result ≡ within least most (bits w high low) }
-{
-    let x = bits(w, high, low);
-    (least <= x) & (x <= most)
-}
-
-// The word of a kind whose bits 27 to 0 are `payload`.
-pub fn word(kind: u32, payload: u32) -> u32
-    requires { (kind < 16) × (payload < 2 ^ 28) }
-    ensures { result ≡ word_of kind payload }
-{
-    (kind << 28) | payload
+    for at in from..to {
+        if !is_valid(at) {
+            return at;
+        }
+    }
+    to
 }

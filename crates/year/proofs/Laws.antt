@@ -1,12 +1,13 @@
 -- A cell's year: its products fit, an emission grows with what is lost, no more is lost than there is, and which figures it depends on.
 -- Assumes nothing.
-use mathlib.Core.Path.{◌≡◌, refl, sym, ap, ◌∙◌}
-use mathlib.Core.Bool.{Bool, true, false, ◌||◌, true≢false}
+use mathlib.Core.Path.{◌≡◌, sym, ap, ◌∙◌}
+use mathlib.Core.Bool.{true, false, or-true}
 use Prim.Native.Nat.{ℕ, ◌+◌, ◌-◌, ◌*◌, ◌≤◌, ◌<◌}
 use native.Mathlib.Nat.{add-zero, mul-le-mul, sub_self}
 use native.Mathlib.Omega.{arith}
 use lib.Dec.{ltb, eqb}
 use borrow.Author.Tests.{lt-ltb, ltb-false, eqb-false}
+use Rattle.std.proofs.lemmas.Bool.{or_parts}
 use Rattle.words.proofs.Signed.{by_test}
 use Rattle.fields.specs.Valid.{HeadValid, RowValid, CellValid}
 use Rattle.fields.specs.declared.Head.{Head}
@@ -17,7 +18,6 @@ use Rattle.year.specs.Year.{no_loss, most_line, most_emission, most_loss, after_
 use Rattle.year.specs.Limits.{WithinLimits, SameFigures}
 use Rattle.year.specs.declared.Entry.{Entry}
 use Rattle.year.specs.declared.LostMm.{LostMm}
-use Rattle.year.specs.declared.Loss.{Loss}
 
 -- ---- the products of an emission
 
@@ -27,10 +27,10 @@ weight h c o b = c.area * c.density * (11000 * (o + b) + 4 * h.warming * h.metha
 
 -- by the limits of a valid listing, with at most m mm lost and at most n mm of it burned
 module _ {h : Head} {c : Cell} (head : HeadValid h) (cell : CellValid h.strata h.horizon c) where
-  pub area_most : c.area * c.density ≤ 24000000
+  area_most : c.area * c.density ≤ 24000000
   area_most = mul-le-mul {n₂ = 10000} {m₂ = 2400} cell.area.1 cell.density.1
 
-  pub ratio_most : 4 * h.warming * h.methane ≤ 40000
+  ratio_most : 4 * h.warming * h.methane ≤ 40000
   ratio_most = mul-le-mul {n₂ = 400} {m₂ = 100} (omega arith) head.methane
 
   methane_most : {b n : ℕ} → b ≤ n → 4 * h.warming * h.methane * b ≤ 40000 * n
@@ -41,14 +41,11 @@ module _ {h : Head} {c : Cell} (head : HeadValid h) (cell : CellValid h.strata h
 
 -- 20,000 mm
 module _ {h : Head} {c : Cell} {o b : ℕ} (fit : WithinLimits h c o b) where
-  pub lost_most : o + b ≤ 20000
+  lost_most : o + b ≤ 20000
   lost_most = let most = fit.cell_valid.entered in let lost = fit.lost in omega arith
 
   burned_most : b ≤ 20000
   burned_most = omega (arith, lost_most)
-
-  pub fit_methane : 4 * h.warming * h.methane * b ≤ 800000000
-  fit_methane = methane_most fit.head_valid fit.cell_valid burned_most
 
   pub fit_weight : weight h c o b ≤ 24480000000000000
   fit_weight = weight_most fit.head_valid fit.cell_valid o b lost_most burned_most
@@ -107,16 +104,6 @@ module _ (h : Head) (c : Cell) (r : Row) (e : Entry) where
   pub lost_within : e.oxidised + e.burned ≤ c.entered → (e.oxidised + (mm_of h c r e).oxidised) + (e.burned + (mm_of h c r e).burned) ≤ c.entered
   lost_within p = let m = mm_least in omega arith
 
-  -- the mm, and the loss, by what the calls for their parts answered
-  pub mm_by : (o b : ℕ) → b ≡ burned_mm h c r e → o ≡ oxidised_by (drained r) r.oxidation (remaining c e) b → ◌≡◌ {A = LostMm} (record { oxidised = o; burned = b }) (mm_of h c r e)
-  unfolding mm_of
-  mm_by o b p q = rw (q, p)
-
-  pub loss_by : (m : LostMm) (before then : ℕ) → m ≡ mm_of h c r e → before ≡ kg_of h c e → then ≡ emission h c (e.oxidised + m.oxidised) (e.burned + m.burned) →
-      ◌≡◌ {A = Loss} (record { oxidised = m.oxidised; burned = m.burned; kg = then - before }) (loss_of h c r e)
-  unfolding loss_of
-  loss_by m before then p u v = rw (v, u, p)
-
 -- ---- the most that can be lost
 module _ (h : Head) (c : Cell) where
   pub most_entered : most_loss h c ≤ c.entered
@@ -128,14 +115,6 @@ module _ (h : Head) (c : Cell) where
   most_peat_lem e = rw e
 
 -- ---- which cells are inactive
-or_false : (a b : Bool) → (a || b) ≡ false → (a ≡ false) × (b ≡ false)
-or_false true b h = absurd (true≢false h)
-or_false false b h = (refl, h)
-
-or_true : (a : Bool) → (a || true) ≡ true
-or_true true = refl
-or_true false = refl
-
 -- a plan year of 0, or above t
 pub unconverted_never : (plan t : ℕ) → plan ≡ 0 → unconverted plan t ≡ true
 unfolding unconverted
@@ -143,13 +122,13 @@ unconverted_never plan t q = rw q
 
 pub unconverted_before : (plan t : ℕ) → t < plan → unconverted plan t ≡ true
 unfolding unconverted
-unconverted_before plan t lt = rw (lt-ltb t plan lt, or_true (eqb plan 0))
+unconverted_before plan t lt = rw (lt-ltb t plan lt, or-true (eqb plan 0))
 
 -- one that is not so is from 1 to t
 pub converted : (plan t : ℕ) → unconverted plan t ≡ false → (1 ≤ plan) × (plan ≤ t)
 unfolding unconverted
 converted plan t q =
-    let h = or_false (eqb plan 0) (ltb t plan) q in
+    let h = or_parts (eqb plan 0) (ltb t plan) q in
     let nonzero : plan ≡ 0 → ⊥ = eqb-false plan 0 h.0 in
     let le = ltb-false t plan h.1 in
     (omega arith, le)
@@ -157,12 +136,12 @@ converted plan t q =
 module _ (h : Head) (c : Cell) (e : Entry) (t : ℕ) where
   unconverted_inactive : unconverted e.plan t ≡ true → inactive h c e t ≡ true
   unfolding inactive
-  unconverted_inactive q = rw (q, or_true e.withdrawn)
+  unconverted_inactive q = rw (q, or-true e.withdrawn)
 
   -- an active cell is converted, and is peat
   pub active : inactive h c e t ≡ false → (unconverted e.plan t ≡ false) × (ltb c.entered h.thickness ≡ false)
   unfolding inactive
-  active q = or_false (unconverted e.plan t) _ (or_false e.withdrawn _ q).1
+  active q = or_parts (unconverted e.plan t) _ (or_parts e.withdrawn _ q).1
 
 -- ---- the year, whether the cell is active or not
 module _ (h : Head) (rows : ℕ → ℕ → Row) (c : Cell) (e : Entry) (t : ℕ) where

@@ -8,8 +8,11 @@ ghost use Rattle.year.specs.Limits.{WithinLimits};
 
 use fields::{Cell, Head, Row};
 
+// `h` and `c` are two parameters throughout: the head is the listing's, read once for all cells, and a pair
+// of both, with `WithinLimits` as its fact, would have to be tied to the listing again wherever it is made.
+
 // What the book holds of a cell: its mark, its plan year, and the mm lost to date.
-#[derive(Clone, Copy)]
+#[derive(Debug, Clone, Copy, PartialEq, Eq)]
 pub struct Entry {
     pub withdrawn: bool,
     pub plan: u32,
@@ -18,14 +21,14 @@ pub struct Entry {
 }
 
 // The mm that a cell loses in a year.
-#[derive(Clone, Copy)]
+#[derive(Debug, Clone, Copy, PartialEq, Eq)]
 pub struct LostMm {
     pub oxidised: u32,
     pub burned: u32,
 }
 
 // What a cell loses in a year: mm, mm and kg, as its three lines say.
-#[derive(Clone, Copy)]
+#[derive(Debug, Clone, Copy, PartialEq, Eq, Default)]
 pub struct Loss {
     pub oxidised: u32,
     pub burned: u32,
@@ -50,10 +53,9 @@ pub fn after_loss(e: Entry, s: Loss) -> Entry
     ensures { result ≡ after_loss e s }
 {
     Entry {
-        withdrawn: e.withdrawn,
-        plan: e.plan,
         oxidised: e.oxidised + s.oxidised,
         burned: e.burned + s.burned,
+        ..e
     }
 }
 
@@ -61,12 +63,7 @@ pub fn after_loss(e: Entry, s: Loss) -> Entry
 pub fn planned(e: Entry, plan: u32) -> Entry
     ensures { result ≡ planned e plan }
 {
-    Entry {
-        withdrawn: e.withdrawn,
-        plan,
-        oxidised: e.oxidised,
-        burned: e.burned,
-    }
+    Entry { plan, ..e }
 }
 
 // The entry with the mark of a withdrawn cell.
@@ -75,26 +72,12 @@ pub fn marked(e: Entry) -> Entry
 {
     Entry {
         withdrawn: true,
-        plan: e.plan,
-        oxidised: e.oxidised,
-        burned: e.burned,
+        ..e
     }
 }
 
-fn least(a: u32, b: u32) -> u32
-    ensures { result ≡ min a b }
-{
-    if a < b { a } else { b }
-}
-
-// How far `a` lies above `b`; 0 where it does not.
-fn above(a: u32, b: u32) -> u32
-    ensures { result ≡ a - b }
-{
-    if a < b { 0 } else { a - b }
-}
-
 // Whether a plan year is 0 or above `year`.
+#[tactic(auto, unfolding(crate::specs::Year::unconverted))]
 pub fn unconverted(plan: u32, year: u32) -> bool
     ensures { result ≡ unconverted plan year }
 {
@@ -102,6 +85,7 @@ pub fn unconverted(plan: u32, year: u32) -> bool
 }
 
 // Whether a cell loses nothing in `year`.
+#[tactic(auto, unfolding(crate::specs::Year::inactive))]
 pub fn inactive(h: Head, c: Cell, e: Entry, year: u32) -> bool
     ensures { result ≡ inactive h c e year }
 {
@@ -109,28 +93,31 @@ pub fn inactive(h: Head, c: Cell, e: Entry, year: u32) -> bool
 }
 
 // What burns of `remaining` mm: the guard above the water stays.
+#[tactic(auto, unfolding(crate::specs::Year::burned_by))]
 fn burned_by(guard: u32, d: u32, b: u32, remaining: u32) -> u32
     ensures { result ≡ burned_by guard d b remaining }
 {
-    least(b, least(remaining, above(d, guard)))
+    b.min(remaining.min(d.saturating_sub(guard)))
 }
 
 // What oxidises of what the fire leaves, down to the water.
+#[tactic(auto, unfolding(crate::specs::Year::oxidised_by))]
 fn oxidised_by(d: u32, o: u32, remaining: u32, burned: u32) -> u32
     requires { (burned ≤ remaining) × (burned ≤ d) }
     ensures { result ≡ oxidised_by d o remaining burned }
 {
-    least(o, least(remaining - burned, d - burned))
+    o.min((remaining - burned).min(d - burned))
 }
 
 // The emission to date of so much oxidised and burned, in kg. The products are made in u64.
+#[tactic(auto, using(crate::proofs::Laws::fit_weight), unfolding(crate::specs::Year::emission))]
 pub fn emission(h: Head, c: Cell, oxidised: u32, burned: u32) -> u32
     requires { WithinLimits h c oxidised burned }
     ensures { result ≡ emission h c oxidised burned }
 {
-    let k = c.area as u64 * c.density as u64;
-    let lost = 11000 * (oxidised as u64 + burned as u64);
-    let methane = 4 * h.warming as u64 * h.methane as u64 * burned as u64;
+    let k = u64::from(c.area) * u64::from(c.density);
+    let lost = 11000 * (u64::from(oxidised) + u64::from(burned));
+    let methane = 4 * u64::from(h.warming) * u64::from(h.methane) * u64::from(burned);
     (k * (lost + methane) / 30000000) as u32
 }
 
@@ -138,14 +125,11 @@ pub fn emission(h: Head, c: Cell, oxidised: u32, burned: u32) -> u32
 pub fn no_loss() -> Loss
     ensures { result ≡ no_loss }
 {
-    Loss {
-        oxidised: 0,
-        burned: 0,
-        kg: 0,
-    }
+    Loss::default()
 }
 
 // The mm that an active cell loses, by its row of the table: the fire comes first.
+#[tactic(auto, using(crate::proofs::Laws::burned_least), unfolding(crate::specs::Year::mm_of))]
 pub fn mm_of(h: Head, c: Cell, r: Row, e: Entry) -> LostMm
     requires { WithinLimits h c e.oxidised e.burned × RowValid r }
     ensures { result ≡ mm_of h c r e }
@@ -158,6 +142,7 @@ pub fn mm_of(h: Head, c: Cell, r: Row, e: Entry) -> LostMm
 }
 
 // What it loses in all, where its kg to date is `before`.
+#[tactic(auto, using(crate::proofs::Laws::lost_within, crate::proofs::Laws::emission_grows), unfolding(crate::specs::Year::loss_of))]
 pub fn loss_of(h: Head, c: Cell, r: Row, e: Entry, before: u32) -> Loss
     requires { WithinLimits h c e.oxidised e.burned × RowValid r × (before ≡ kg_of h c e) }
     ensures { result ≡ loss_of h c r e }
@@ -172,6 +157,7 @@ pub fn loss_of(h: Head, c: Cell, r: Row, e: Entry, before: u32) -> Loss
 }
 
 // The most that can be lost of a cell: what was entered, and nothing of one that is no peat.
+#[tactic(auto, unfolding(crate::specs::Year::most_loss))]
 pub fn most_loss(h: Head, c: Cell) -> u32
     ensures { result ≡ most_loss h c }
 {

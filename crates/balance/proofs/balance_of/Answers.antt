@@ -18,24 +18,24 @@ use Rattle.balance.proofs.balance_of.Goals.{After-terms_to_date-t, After-with_pe
 
 module _ (s : Start) where
   abbrev date : ℕ → ℤ
-  date last = to_date s.args.listing.now s.args.year s.args.peat last
+  date last = to_date s.args.listing.now.words.now s.args.year s.args.peat last
 
   abbrev share : ℕ
-  share = (head s.args.listing.now).buffer
+  share = (head s.args.listing.now.words.now).buffer
 
   small : (last : ℕ) → nat_abs (date last) ≤ most_tonnes
-  small last = omega (arith, date_size s.args.listing.now s.args.year s.args.peat s.requires.0 last, s.requires.1)
+  small last = omega (arith, date_size s.args.listing.now.words.now s.args.year s.args.peat s.args.listing.now.accepted last, s.requires)
 
 -- the terms, by what the call answered
 module _ (c : After-terms_to_date-t) where
-  percent : c.head-p.result.buffer ≡ share (goal.at.After-terms_to_date-t c).Start
-  percent = ap (λ (h : Head). h.buffer) c.head-p.ensures
+  percent : c.args.listing.now.figures.buffer ≡ share (goal.at.After-terms_to_date-t c).Start
+  percent = ap (λ (h : Head). h.buffer) c.args.listing.now.is_head
 
   abbrev terms : ℕ → ℤ
-  terms last = terms_to_date c.args.listing.now c.args.year last
+  terms last = terms_to_date c.args.listing.now.words.now c.args.year last
 
   bounded : (last : ℕ) → nat_abs (terms last) ≤ most_term_sum_below
-  bounded last = terms_size c.args.listing.now c.args.year last c.requires.0
+  bounded last = terms_size c.args.listing.now.words.now c.args.year last c.args.listing.now.accepted
 
   all : to_z w64 (of_z w64 c.terms_to_date-t.result.all) ≡ terms 8
   all = cast_reads w64 (terms 8) c.terms_to_date-t.ensures.0 (omega (arith, bounded 8))
@@ -50,11 +50,11 @@ module _ (c : After-terms_to_date-t) where
 -- peat and each of the sums are small
 pub with_peat-n-requires : goal.with_peat-n-requires
 with_peat-n-requires c =
-    (omega (arith, c.requires.1), omega (arith, (sums_small (goal.at.with_peat-n-requires c).After-terms_to_date-t).0))
+    (omega (arith, c.requires), omega (arith, (sums_small (goal.at.with_peat-n-requires c).After-terms_to_date-t).0))
 
 pub with_peat-s-requires : goal.with_peat-s-requires
 with_peat-s-requires c =
-    (omega (arith, c.requires.1), omega (arith, (sums_small (goal.at.with_peat-s-requires c).After-terms_to_date-t).1))
+    (omega (arith, c.requires), omega (arith, (sums_small (goal.at.with_peat-s-requires c).After-terms_to_date-t).1))
 
 -- S
 module _ (c : After-with_peat-s) where
@@ -63,7 +63,7 @@ module _ (c : After-with_peat-s) where
 
 pub withheld-requires : goal.withheld-requires
 withheld-requires c = (
-  omega (arith, percent (goal.at.withheld-requires c).After-terms_to_date-t, c.requires.0.head_valid.buffer),
+  omega (arith, percent (goal.at.withheld-requires c).After-terms_to_date-t, c.args.listing.now.accepted.head_valid.buffer),
   omega (arith, ap nat_abs (tonnes c), small (goal.at.withheld-requires c).Start 5),
 )
 
@@ -87,7 +87,7 @@ module _ (c : After-withheld) where
   is = c.withheld.ensures ∙ ap₂ withheld (percent (goal.at.After-withheld c).After-terms_to_date-t) (tonnes (goal.at.After-withheld c).After-with_peat-s)
 
   fits : nat_abs n + held < 2 ^ 63
-  fits = omega (arith, small s 8, small s 5, held_size (share s) (date s 5) s.requires.0.head_valid.buffer)
+  fits = omega (arith, small s 8, small s 5, held_size (share s) (date s 5) s.args.listing.now.accepted.head_valid.buffer)
 
   reads : to_z w64 c.withheld.result ≡ pos held
   reads = to_z_pos w64 (omega (arith, is, fits)) ∙ ap pos is

@@ -11,16 +11,17 @@ use Rattle.balance.proofs.tonnes_due.Goals.{After-balance_of-balance}
 
 pub balance_of-balance-requires : goal.balance_of-balance-requires
 balance_of-balance-requires c =
-    (c.requires.fitted.accepted, omega (arith, c.peat_tonnes-peat.ensures, peat_most c.args.listing.now c.args.book.now c.requires))
+    omega (arith, c.peat_tonnes-peat.ensures, peat_most _ _ c.args.book.now.accepted)
 
 module _ (c : After-balance_of-balance) where
-  balance : to_z w64 (of_z w64 c.balance_of-balance.result) ≡ balance_in c.args.listing.now c.args.book.now
-  balance = call_reads w64 c.balance_of-balance.type_inv c.balance_of-balance.ensures ∙ ap₂ (balance_of c.args.listing.now) c.year.ensures c.peat_tonnes-peat.ensures
+  balance : to_z w64 (of_z w64 c.balance_of-balance.result) ≡ balance_in c.args.book.now.listing.words.now c.args.book.now.words.now
+  balance = call_reads w64 c.balance_of-balance.type_inv c.balance_of-balance.ensures ∙ ap₂ (balance_of c.args.book.now.listing.words.now) c.year.ensures c.peat_tonnes-peat.ensures
 
 pub due-requires : goal.due-requires
 due-requires c =
-    let fits = balance_fits c.args.listing.now c.args.book.now c.requires in
-    rw (balance (goal.at.due-requires c).After-balance_of-balance) (fits.0, fits.1, omega (arith, c.issued.ensures, c.requires.issued))
+    let s = c.args.book.now.accepted in
+    let fits = balance_fits _ _ s in
+    rw (balance (goal.at.due-requires c).After-balance_of-balance) (fits.0, fits.1, omega (arith, c.issued.ensures, s.issued))
 
 pub returns : goal.returns
 returns c = c.due.ensures ∙ ap₂ due (balance (goal.at.returns c).After-balance_of-balance) c.issued.ensures

@@ -4,4 +4,4 @@ use Rattle.book.proofs.entry_of.Goals as goal
 
 pub returns : goal.returns
 unfolding entry_of
-returns c = rw (c.bits-4.ensures, c.bits-3.ensures, c.bits-2.ensures, c.bits.ensures)
+returns c = rw (c.of-4.ensures, c.of-3.ensures, c.of-2.ensures, c.of.ensures)

@@ -7,8 +7,8 @@ use Rattle.book.proofs.entry_valid.Goals as goal
 
 pub returns : goal.returns
 returns c t =
-    let both = and_left (c.is_plan_word-plan.result && c.is_kind-oxidised.result) _ t in
+    let both = and_left (c.is_plan_word-plan.result && c.is_of-oxidised.result) _ t in
     entry_all _ _ _ _
     (sym c.is_plan_word-plan.ensures ∙ and_left c.is_plan_word-plan.result _ both)
-    (sym c.is_kind-oxidised.ensures ∙ and_right c.is_plan_word-plan.result _ both)
-    (sym (rw c.most_loss.ensures at c.is_burned_word.ensures) ∙ and_right (c.is_plan_word-plan.result && c.is_kind-oxidised.result) _ t)
+    (sym c.is_of-oxidised.ensures ∙ and_right c.is_plan_word-plan.result _ both)
+    (sym (rw c.most_loss.ensures at c.is_burned_word.ensures) ∙ and_right (c.is_plan_word-plan.result && c.is_of-oxidised.result) _ t)

@@ -1,18 +1,20 @@
--- `book::fits` meets its contract: the listing's check comes first. Assumes nothing.
-use borrow.Author.Rules.{rules}
-use Rattle.words.proofs.Answers.{answers}
-use Rattle.listing.proofs.Accepted.{accepted_done}
+-- `book::fits` meets its contract: the listing is tested before the book's length. Assumes nothing.
+use Rattle.words.proofs.Answers.{refused_on, after_first, after_next}
 use Rattle.book.specs.Check.{fitted}
 use Rattle.book.proofs.fits.Goals as goal
 
-pub check_capacity-requires : goal.check_capacity-requires
+pub returns-in_err-accepted-clause-value : goal.returns-in_err-accepted-clause-value
 unfolding fitted
-check_capacity-requires c = search (rules, accepted_done)
+returns-in_err-accepted-clause-value c = refused_on _ _ _ _ c.from_residual.ensures.1 (after_first _ _ _ _ c.in_err-accepted.ensures.value)
 
-pub returns-in-Done : goal.returns-in-Done
+pub returns-in_err-check_capacity-clause-value : goal.returns-in_err-check_capacity-clause-value
 unfolding fitted
-returns-in-Done c = search answers
+returns-in_err-check_capacity-clause-value c =
+    let check = c.in_ok-accepted.ensures in
+    refused_on _ _ _ _ c.from_residual-in_err-check_capacity.ensures.1 (after_next _ _ _ _ check.value (rw check.same_words at c.in_err-check_capacity.ensures))
 
-pub returns-in-Refused : goal.returns-in-Refused
+pub returns-clause-value : goal.returns-clause-value
 unfolding fitted
-returns-in-Refused c = search answers
+returns-clause-value c =
+    let check = c.in_ok-accepted.ensures in
+    after_next _ _ _ _ check.value (rw check.same_words at c.in_ok-check_capacity.ensures)

@@ -4,4 +4,4 @@ use Rattle.book.proofs.is_burned_word.Goals as goal
 
 pub returns : goal.returns
 unfolding is_burned_word
-returns c = rw (c.is_kind.ensures, c.bits.ensures, c.bits-2.ensures)
+returns c = rw (c.is_of.ensures, c.of.ensures, c.of-2.ensures)

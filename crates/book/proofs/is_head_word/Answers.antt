@@ -9,4 +9,4 @@ returns-then-k-eq-YEAR_AT c = rw (c.is_year_word.ensures, c.if-k-eq-YEAR_AT.true
 
 pub returns : goal.returns
 unfolding is_head_word
-returns c = rw (c.is_kind.ensures, ne_eqb _ _ c.if-k-eq-YEAR_AT.false)
+returns c = rw (c.is_of.ensures, ne_eqb _ _ c.if-k-eq-YEAR_AT.false)

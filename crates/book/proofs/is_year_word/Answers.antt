@@ -4,4 +4,4 @@ use Rattle.book.proofs.is_year_word.Goals as goal
 
 pub returns : goal.returns
 unfolding is_year_word
-returns c = rw (c.is_kind.ensures, c.bits_within.ensures)
+returns c = rw (c.is_of.ensures, c.is_within.ensures)

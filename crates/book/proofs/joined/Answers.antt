@@ -15,23 +15,23 @@ loop-k-init c = search rules
 pub overflow_mul-x : goal.overflow_mul-x
 overflow_mul-x c =
     let loop = c.loop-k in
-    let below : loop.x < 2 ^ 28 = rw loop.invariant.1 (joined_one _ _ loop.k (omega arith)) in
+    let below : loop.x < 2 ^ 28 = rw loop.invariant (joined_one _ _ loop.k (omega arith)) in
     search rules
 
 pub overflow_add-x : goal.overflow_add-x
 overflow_add-x c =
     let loop = c.loop-k in
-    let below : loop.x < 2 ^ 28 = rw loop.invariant.1 (joined_one _ _ loop.k (omega arith)) in
+    let below : loop.x < 2 ^ 28 = rw loop.invariant (joined_one _ _ loop.k (omega arith)) in
     search rules
 
 pub loop-k-preserved : goal.loop-k-preserved
 unfolding joined
 loop-k-preserved c =
     let loop = c.loop-k in
-    (omega arith, rw (c.bits.ensures, loop.invariant.1, add-one loop.k))
+    rw (c.from.ensures, c.of.ensures, loop.invariant, add-one loop.k)
 
 pub returns : goal.returns
 returns c =
     let loop = c.loop-k in
     let e : loop.k ≡ c.args.n = omega arith in
-    rw e at loop.invariant.1
+    rw e at loop.invariant

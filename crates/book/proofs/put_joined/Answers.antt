@@ -12,11 +12,11 @@ loop-k-preserved c =
     let put = c.put_payload in
     let loop = c.loop-k in
     let k : loop.k ≡ suc (loop.k - 1) = omega arith in
-    (omega arith, rw (put.ensures, length-set) loop.invariant.1, rw put.ensures (rw k at loop.invariant.2))
+    (rw (put.ensures, length-set) loop.invariant.0, rw put.ensures (rw k at loop.invariant.1))
 
 pub returns : goal.returns
 unfolding stored
 returns c =
     let loop = c.loop-k in
     let e : loop.k ≡ 0 = omega arith in
-    rw e at loop.invariant.2
+    rw e at loop.invariant.1

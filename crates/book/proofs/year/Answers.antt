@@ -5,4 +5,4 @@ use Rattle.book.proofs.year.Goals as goal
 
 pub returns : goal.returns
 unfolding year joined
-returns c = omega (arith, c.bits.ensures)
+returns c = omega (arith, c.of.ensures)

@@ -5,4 +5,4 @@ use Rattle.capi.specs.Exported.{exported}
 use Rattle.capi.proofs.peat_forecast.Goals as goal
 
 pub returns : goal.returns
-returns c = let e = c.forecast.ensures in record { value = c.of_outcome.ensures ∙ ap exported (effect_answer e); new_book = effect_book e; new_output = effect_output e }
+returns c = let e = c.forecast.ensures in record { value = c.from.ensures ∙ ap exported (effect_answer e); new_book = effect_book e; new_output = effect_output e }

@@ -2,4 +2,4 @@
 use Rattle.capi.proofs.peat_levels.Goals as goal
 
 pub returns : goal.returns
-returns c = rw (c.of_amount.ensures, c.levels.ensures)
+returns c = rw (c.from.ensures, c.levels.ensures)

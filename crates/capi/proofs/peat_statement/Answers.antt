@@ -2,4 +2,4 @@
 use Rattle.capi.proofs.peat_statement.Goals as goal
 
 pub returns : goal.returns
-returns c = rw (c.of_stated.ensures, c.statement.ensures)
+returns c = rw (c.from.ensures, c.statement.ensures)

@@ -1,24 +1,28 @@
 -- `closing::active_loss` meets its contract: the row is that of the cell's own stratum and age. Assumes nothing.
+use mathlib.Core.Path.{sym, ◌∙◌}
 use native.Mathlib.Omega.{arith}
-use Rattle.closing.proofs.Closable.{cell_year_fit, losing_row, active_age, active_loss_lem}
+use Rattle.year.specs.Year.{age}
+use Rattle.year.proofs.Laws.{loss_active}
+use Rattle.closing.proofs.Closable.{cell_year_fit, active_age}
 use Rattle.closing.proofs.active_loss.Goals as goal
+
+pub overflow_sub-age : goal.overflow_sub-age
+overflow_sub-age c = (active_age c.args.listing.now.accepted c.requires.0 c.requires.1).0
+
+pub overflow_add-age : goal.overflow_add-age
+overflow_add-age c = omega (arith, c.args.listing.now.accepted.head_valid.horizon, c.requires.0.in_time)
 
 pub row-r-requires : goal.row-r-requires
 row-r-requires c =
-    let pre = c.requires in
-    let a = active_age pre.0 pre.1 in
-    let time = pre.0.in_time in
-    (pre.0.accepted, pre.0.head_is, omega (arith, a.1), omega arith, omega arith)
+    let a = active_age c.args.listing.now.accepted c.requires.0 c.requires.1 in
+    let time = c.requires.0.in_time in
+    (omega (arith, a.1), omega arith, omega arith)
 
 pub loss_of-requires : goal.loss_of-requires
 loss_of-requires c =
-    let pre = c.requires in
-    (cell_year_fit pre.0, losing_row pre.0 _ _ _ c.row-r.ensures, pre.2)
+    let a = c.args.listing.now.accepted in
+    rw c.args.listing.now.is_head (cell_year_fit a c.requires.0, rw c.row-r.ensures (a.row_valid c.args.c.stratum (age c.args.e.plan c.args.year)), c.requires.2)
 
 pub returns : goal.returns
 returns c =
-    let pre = c.requires in
-    active_loss_lem pre.0 pre.1 _ c.row-r.ensures _ c.loss_of.ensures
-
-pub overflow_sub-age : goal.overflow_sub-age
-overflow_sub-age c = let pre = c.requires in (active_age pre.0 pre.1).0
+    rw (c.row-r.ensures, c.args.listing.now.is_head) at c.loss_of.ensures ∙ sym (loss_active _ _ _ _ _ c.requires.1)

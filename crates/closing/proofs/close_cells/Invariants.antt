@@ -1,12 +1,6 @@
 -- `closing::close_cells` meets its contract: iteration i is lent cell i's words as they were at the start, and leaves the closed ones. Assumes nothing.
-use mathlib.Core.Path.{◌≡◌}
-use Prim.Native.Nat.{◌-◌}
-use Rattle.listing.specs.Layout.{cells}
 use Rattle.closing.proofs.Loop.{Progress}
 use Rattle.closing.proofs.close_cells.Given as goal
 
 abbrev pub invariant-loop-i : goal.invariant-loop-i
-invariant-loop-i l = (l.cells ≡ cells l.listing) × Progress l.listing l.initial.book l.initial.lines l.i l.book l.lines
-
-abbrev pub decreases-loop-i : goal.decreases-loop-i
-decreases-loop-i l = l.cells - l.i
+invariant-loop-i l = Progress l.listing.words.now l.initial.book l.initial.lines l.i l.book l.lines

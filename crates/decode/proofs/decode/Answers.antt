@@ -1,19 +1,29 @@
 -- `decode::decode` meets its contract: iteration i stores word i. Assumes nothing.
-use mathlib.Core.Path.{refl, ap}
-use mathlib.Core.List.{[], ◌∷◌}
-use Prim.Native.Nat.{ℕ}
-use native.Mathlib.Omega.{arith}
+use Rattle.std.proofs.Common.{◌≡◌, refl, ap, ℕ, ◌+◌, ◌*◌, ◌<◌, List, [], ◌∷◌, get_or, w32, arith}
+use Rattle.std.proofs.Math.Nat.{add-zero}
+use Rattle.std.specs.Int.{from_le_bytes}
+use Rattle.std.specs.Simd.{first_chunks}
+use Rattle.words.proofs.Chunks.{chunk_value}
 use Rattle.words.proofs.Blocks.{filling_none, filling_stored, filling_all}
-use Rattle.decode.specs.Decode.{decoded}
+use Rattle.decode.specs.Decode.{word_at, decoded}
 use Rattle.decode.proofs.decode.Goals as goal
+
+-- four bytes make the word
+word_of : (n i : ℕ) (b : List ℕ) → i < n → from_le_bytes w32 (get_or (first_chunks 4 n b) i []) ≡ word_at b (4 * i)
+unfolding word_at
+word_of n i b h =
+    let byte : (j : ℕ) → j < 4 → get_or (get_or (first_chunks 4 n b) i []) j 0 ≡ get_or b (4 * i + j) 0 = λ j k. chunk_value 4 n i j b h k in
+    rw (byte 0 (omega arith), byte 1 (omega arith), byte 2 (omega arith), byte 3 (omega arith), add-zero) (omega arith)
 
 pub loop-i-init : goal.loop-i-init
 loop-i-init c = filling_none (λ k. refl) (omega arith)
 
 pub loop-i-preserved : goal.loop-i-preserved
 loop-i-preserved c =
-    filling_stored c.loop-i.invariant c.loop-i-test.true c.loop-i.i (omega arith) _ (ap (λ (w : ℕ). w ∷ []) c.word_at.ensures)
+    let here = word_of _ c.loop-i.i c.args.bytes.now (rw c.as_chunks.ensures.front_len at c.loop-i-test.true) in
+    let word : c.from_le_bytes.result ≡ word_at c.args.bytes.now (4 * c.loop-i.i) = cc here in
+    filling_stored c.loop-i.invariant (omega arith) c.loop-i.i (omega arith) _ (ap (λ (w : ℕ). w ∷ []) word)
 
-pub returns : goal.returns
+pub returns-clause-new_words : goal.returns-clause-new_words
 unfolding decoded
-returns c = record { value = refl; new_words = filling_all c.loop-i.invariant c.loop-i-test.false }
+returns-clause-new_words c = filling_all c.loop-i.invariant (omega arith)

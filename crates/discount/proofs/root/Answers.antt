@@ -1,8 +1,7 @@
 -- `discount::root` meets its contract: every step is at least the root, and where the loop ends its square is not above n. Assumes nothing.
 use native.Mathlib.Omega.{arith}
-use native.Mathlib.Nat.{mul-le-mul}
 use Rattle.discount.specs.Bounds.{root_limit}
-use Rattle.discount.proofs.Newton.{Between, root_positive, step_above, step_falls, step_between}
+use Rattle.discount.proofs.Newton.{Between, step_above, step_between}
 use Rattle.discount.proofs.root.Goals as goal
 use Rattle.discount.proofs.root.Goals.{After-newton_step, After-newton_step-2, After-newton_step-r, Joined-n-lt16000000, else-n-lt16000000, then-n-lt16000000}
 
@@ -34,17 +33,3 @@ newton_step-r-requires c = let b = second c in omega (arith, b.low, b.high)
 
 pub loop-r-init : goal.loop-r-init
 loop-r-init c = (step_above _ _ _ (let b = (second c.before).low in omega arith) c.newton_step-r.ensures, (third c).high)
-
-pub overflow_mul-r : goal.overflow_mul-r
-overflow_mul-r c = let h = c.loop-r.invariant.1 in omega (arith, mul-le-mul h h)
-
-pub newton_step-r-requires-in-loop-r : goal.newton_step-r-requires-in-loop-r
-newton_step-r-requires-in-loop-r c = let inv = c.loop-r.invariant in omega (arith, root_positive _ _ c.loop-r-test.true)
-
-pub loop-r-smaller : goal.loop-r-smaller
-loop-r-smaller c = step_falls _ _ _ c.loop-r-test.true c.newton_step-r-in-loop-r.ensures
-
-pub loop-r-preserved : goal.loop-r-preserved
-loop-r-preserved c = let test = c.loop-r-test.true in
-    let inv = c.loop-r.invariant.1 in
-    (step_above _ _ _ (root_positive _ _ test) c.newton_step-r-in-loop-r.ensures, omega (arith, step_falls _ _ _ test c.newton_step-r-in-loop-r.ensures))

@@ -4,4 +4,4 @@ use Rattle.fields.proofs.cell_of.Goals as goal
 
 pub returns : goal.returns
 unfolding cell_of
-returns c = rw (c.bits.ensures, c.bits-2.ensures, c.bits-3.ensures, c.bits-4.ensures, c.bits-5.ensures)
+returns c = rw (c.of.ensures, c.of-2.ensures, c.of-3.ensures, c.of-4.ensures, c.of-5.ensures)

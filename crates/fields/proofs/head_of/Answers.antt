@@ -5,10 +5,10 @@ use Rattle.fields.proofs.head_of.Goals as goal
 pub returns : goal.returns
 unfolding head_of
 returns c = rw (
-  c.bits.ensures,
-  c.bits-2.ensures,
-  c.bits-3.ensures,
-  c.bits-4.ensures,
-  c.bits-5.ensures,
-  c.bits-6.ensures,
+  c.of.ensures,
+  c.of-2.ensures,
+  c.of-3.ensures,
+  c.of-4.ensures,
+  c.of-5.ensures,
+  c.of-6.ensures,
 )

@@ -4,4 +4,4 @@ use Rattle.fields.proofs.is_area_word.Goals as goal
 
 pub returns : goal.returns
 unfolding is_area_word
-returns c = rw (c.is_kind.ensures, c.bits.ensures, c.bits_within.ensures, c.bits_within-2.ensures)
+returns c = rw (c.is_of.ensures, c.of.ensures, c.is_within.ensures, c.is_within-2.ensures)

@@ -5,12 +5,12 @@ use Rattle.fields.proofs.term_order.Goals as goal
 
 pub overflow_mul-result : goal.overflow_mul-result
 unfolding term_order
-overflow_mul-result c = omega (arith, c.bits.ensures)
+overflow_mul-result c = omega (arith, c.of.ensures)
 
 pub overflow_add-result : goal.overflow_add-result
 unfolding term_order
-overflow_add-result c = omega (arith, c.bits.ensures, c.bits-2.ensures)
+overflow_add-result c = omega (arith, c.of.ensures, c.of-2.ensures)
 
 pub returns : goal.returns
 unfolding term_order
-returns c = rw (c.bits.ensures, c.bits-2.ensures)
+returns c = rw (c.of.ensures, c.of-2.ensures)

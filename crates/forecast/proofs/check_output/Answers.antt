@@ -1,14 +1,8 @@
 -- `forecast::check_output` meets its contract: its test is the definition's. Assumes nothing.
-use mathlib.Core.Path.{refl}
-use borrow.Author.Tests.{lt-leb, le-leb}
-use Rattle.words.proofs.Answers.{need_failed, need_next}
+use Rattle.listing.proofs.Accepted.{listing_horizon}
 use Rattle.forecast.specs.Forecast.{output_checked}
 use Rattle.forecast.proofs.check_output.Goals as goal
 
-pub returns-then-capacity-head : goal.returns-then-capacity-head
-unfolding output_checked
-returns-then-capacity-head c = need_failed _ _ _ _ _ (lt-leb _ _ (rw c.head.ensures at c.if-capacity-head.true)) c.refuse.ensures
-
 pub returns : goal.returns
 unfolding output_checked
-returns c = need_next _ _ _ _ _ (le-leb _ _ (rw c.head.ensures at c.if-capacity-head.false)) refl
+returns c = rw (c.need.ensures, listing_horizon c.args.listing.now)

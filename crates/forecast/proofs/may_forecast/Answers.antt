@@ -1,17 +1,20 @@
 -- `forecast::may_forecast` meets its contract: number 15 comes after those of an open. Assumes nothing.
-use Rattle.words.proofs.Answers.{answers}
-use Rattle.book.specs.Current.{current}
-use Rattle.book.proofs.AcceptedBook.{shaped, fitted_done}
+use Rattle.words.proofs.Answers.{refused_on, after_first, after_next}
 use Rattle.forecast.specs.Forecast.{forecast_answer}
 use Rattle.forecast.proofs.may_forecast.Goals as goal
 
-pub check_output-requires : goal.check_output-requires
-check_output-requires c = (fitted_done current _ _ shaped _ c.fits.ensures c.in-Done.is).accepted
-
-pub returns-in-Done : goal.returns-in-Done
+pub returns-in_err-accepted-clause-value : goal.returns-in_err-accepted-clause-value
 unfolding forecast_answer
-returns-in-Done c = search answers
+returns-in_err-accepted-clause-value c = refused_on _ _ _ _ c.from_residual.ensures.1 (after_first _ _ _ _ c.in_err-accepted.ensures.value)
 
-pub returns-in-Refused : goal.returns-in-Refused
+pub returns-in_err-check_output-clause-value : goal.returns-in_err-check_output-clause-value
 unfolding forecast_answer
-returns-in-Refused c = search answers
+returns-in_err-check_output-clause-value c =
+    let fits = c.in_ok-accepted.ensures in
+    refused_on _ _ _ _ c.from_residual-in_err-check_output.ensures.1 (after_next _ _ _ _ fits.value (rw fits.same_words at c.in_err-check_output.ensures))
+
+pub returns-clause-value : goal.returns-clause-value
+unfolding forecast_answer
+returns-clause-value c =
+    let fits = c.in_ok-accepted.ensures in
+    after_next _ _ _ _ fits.value (rw fits.same_words at c.in_ok-check_output.ensures)

@@ -1,17 +1,20 @@
 -- `ledger::admit_cell` meets its contract: what every call checks comes first. Assumes nothing.
-use Rattle.words.proofs.Answers.{answers}
-use Rattle.book.specs.Current.{current}
-use Rattle.book.proofs.AcceptedBook.{shaped, accepted_book_done}
+use Rattle.words.proofs.Answers.{refused_on, after_first, after_next}
 use Rattle.ledger.specs.Calls.{admitted_cell}
 use Rattle.ledger.proofs.admit_cell.Goals as goal
 
-pub check_cell-requires : goal.check_cell-requires
-check_cell-requires c = (accepted_book_done current _ _ shaped _ c.admit.ensures c.in-Done.is).fitted.accepted
-
-pub returns-in-Done : goal.returns-in-Done
+pub returns-in_err-open-clause-value : goal.returns-in_err-open-clause-value
 unfolding admitted_cell
-returns-in-Done c = search answers
+returns-in_err-open-clause-value c = refused_on _ _ _ _ c.from_residual.ensures.1 (after_first _ _ _ _ c.in_err-open.ensures.value)
 
-pub returns-in-Refused : goal.returns-in-Refused
+pub returns-in_err-check_cell-clause-value : goal.returns-in_err-check_cell-clause-value
 unfolding admitted_cell
-returns-in-Refused c = search answers
+returns-in_err-check_cell-clause-value c =
+    let answered = c.in_ok-open.ensures in
+    refused_on _ _ _ _ c.from_residual-in_err-check_cell.ensures.1 (after_next _ _ _ _ answered.value (rw answered.same_listing at c.in_err-check_cell.ensures))
+
+pub returns-clause-value : goal.returns-clause-value
+unfolding admitted_cell
+returns-clause-value c =
+    let answered = c.in_ok-open.ensures in
+    after_next _ _ _ _ answered.value (rw answered.same_listing at c.in_ok-check_cell.ensures)

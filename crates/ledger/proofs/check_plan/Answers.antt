@@ -1,9 +1,9 @@
 -- `ledger::check_plan` meets its contract: its tests are the definition's, one after the other. Assumes nothing.
-use mathlib.Core.Path.{◌≡◌, refl, ap₂, ◌∙◌}
+use mathlib.Core.Path.{◌≡◌, ap₂, ◌∙◌}
 use mathlib.Core.Bool.{Bool, ◌&&◌, ◌||◌}
 use Prim.Native.Nat.{ℕ}
 use lib.Dec.{eqb, ltb, leb}
-use Rattle.words.proofs.Answers.{need_failed, need_next, flag_false, flag_true}
+use Rattle.words.proofs.Answers.{refused_on, need_stops, need_passes}
 use Rattle.fields.specs.declared.Head.{Head}
 use Rattle.year.specs.Year.{unconverted}
 use Rattle.year.specs.declared.Entry.{Entry}
@@ -11,33 +11,27 @@ use Rattle.book.specs.Current.{entry}
 use Rattle.book.specs.Layout.{year}
 use Rattle.ledger.specs.Calls.{ahead, plan_checked}
 use Rattle.ledger.proofs.check_plan.Goals as goal
-use Rattle.ledger.proofs.check_plan.Goals.{After-head-horizon, After-unconverted}
+use Rattle.ledger.proofs.check_plan.Goals.{After-unconverted}
 
 -- the two tests, as the program makes them
 module _ (c : After-unconverted) where
-  test12 : c.unconverted.result ≡ unconverted (entry c.args.book.now c.args.cell).plan (year c.args.book.now)
+  test12 : c.unconverted.result ≡ unconverted (entry c.args.book.now.words.now c.args.cell).plan (year c.args.book.now.words.now)
   test12 = c.unconverted.ensures ∙ ap₂ (λ (e : Entry) (t : ℕ). unconverted e.plan t) c.entry-e.ensures c.year-current.ensures
 
   abbrev test : ℕ → Head → Bool
   test t h = let y = c.args.year in eqb y 0 || (ltb t y && leb y h.horizon)
 
-test13 : (c : After-head-horizon) →
-    test (goal.at.After-head-horizon c).After-unconverted c.year-current.result c.head-horizon.result ≡ ahead c.args.listing.now c.args.book.now c.args.year
+test13 : (c : After-unconverted) → test c c.year-current.result c.args.book.now.listing.figures ≡ ahead c.args.book.now.listing.words.now c.args.book.now.words.now c.args.year
 unfolding ahead
-test13 c = ap₂ (test (goal.at.After-head-horizon c).After-unconverted) c.year-current.ensures c.head-horizon.ensures
+test13 c = ap₂ (test c) c.year-current.ensures c.args.book.now.listing.is_head
 
-pub returns-then-not-unconverted : goal.returns-then-not-unconverted
+pub returns-in_err-need : goal.returns-in_err-need
 unfolding plan_checked
-returns-then-not-unconverted c = need_failed _ _ _ _ _ (flag_false _ _ (test12 (goal.at.returns-then-not-unconverted c).After-unconverted) c.if-not-unconverted.true) c.refuse.ensures
+returns-in_err-need c =
+    refused_on _ _ _ _ c.from_residual.ensures.1 (need_stops _ _ _ _ _ _ (rw (test12 (goal.at.returns-in_err-need c).After-unconverted) at c.in_err-need.ensures))
 
 pub returns : goal.returns
 unfolding plan_checked
 returns c =
-    need_next _ _ _ _ _ (flag_true _ _ (test12 (goal.at.returns c).After-unconverted) c.if-not-unconverted.false)
-    (need_next _ _ _ _ _ (flag_true _ _ (test13 (goal.at.returns c).After-head-horizon) c.if-not-year-current.false) refl)
-
-pub returns-then-not-year-current : goal.returns-then-not-year-current
-unfolding plan_checked
-returns-then-not-year-current c =
-    need_next _ _ _ _ _ (flag_true _ _ (test12 (goal.at.returns-then-not-year-current c).After-unconverted) c.if-not-unconverted.false)
-    (need_failed _ _ _ _ _ (flag_false _ _ (test13 (goal.at.returns-then-not-year-current c).After-head-horizon) c.if-not-year-current.true) c.refuse-then-not-year-current.ensures)
+    let tests = (goal.at.returns c).After-unconverted in
+    need_passes _ _ _ _ _ _ (rw (test12 tests) at c.in_ok-need.ensures) (rw (test13 tests) at c.need-2.ensures)

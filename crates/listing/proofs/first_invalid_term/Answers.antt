@@ -1,30 +1,11 @@
--- `listing::first_invalid_term` meets its contract: the search has come to `at`. Assumes nothing.
-use Rattle.words.proofs.Steps.{steps}
+-- `listing::first_invalid_term` meets its contract: the search finds the first place that is invalid. Assumes nothing.
+use Rattle.words.proofs.Meaning.{search_gives}
+use lib.ListN.{length}
+use Rattle.listing.specs.Check.{term_word_valid}
 use Rattle.listing.proofs.first_invalid_term.Goals as goal
 
-pub loop-at-init : goal.loop-at-init
-loop-at-init c = search steps
-
-pub offset_bounds-listing-at : goal.offset_bounds-listing-at
-offset_bounds-listing-at c = search steps
-
-pub bounds-listing-at : goal.bounds-listing-at
-bounds-listing-at c = search steps
-
-pub is_term_word-requires : goal.is_term_word-requires
-is_term_word-requires c = search steps
-
-pub overflow_add-at : goal.overflow_add-at
-overflow_add-at c = search steps
-
-pub loop-at-smaller : goal.loop-at-smaller
-loop-at-smaller c = search steps
-
-pub loop-at-preserved : goal.loop-at-preserved
-loop-at-preserved c = search steps
-
-pub returns-after-loop-at : goal.returns-after-loop-at
-returns-after-loop-at c = search steps
-
-pub returns-then-not-is_term_word : goal.returns-then-not-is_term_word
-returns-then-not-is_term_word c = search steps
+pub returns : goal.returns
+returns c =
+    let e = c.first_invalid.ensures in
+    let l = c.args.listing.now in
+    search_gives (term_word_valid l c.args.horizon) c.args.start (length l) _ e.low e.high e.before e.invalid

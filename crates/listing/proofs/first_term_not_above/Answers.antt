@@ -1,42 +1,18 @@
--- `listing::first_term_not_above` meets its contract: the search has come to `at`. Assumes nothing.
-use Rattle.words.proofs.Steps.{steps}
+-- `listing::first_term_not_above` meets its contract: the search finds the first place that is invalid, and there is none to search where there is
+-- no term. Assumes nothing.
+use native.Mathlib.Omega.{arith}
+use Rattle.words.proofs.Meaning.{search_gives}
+use Rattle.words.proofs.Steps.{passed_none, passed_all}
+use Prim.Native.Nat.{◌+◌}
+use lib.ListN.{length}
+use Rattle.listing.specs.Check.{term_above}
 use Rattle.listing.proofs.first_term_not_above.Goals as goal
 
-pub overflow_add-at : goal.overflow_add-at
-overflow_add-at c = search steps
+pub returns-then-listing-start : goal.returns-then-listing-start
+returns-then-listing-start c = passed_all passed_none (omega arith)
 
-pub loop-at-init : goal.loop-at-init
-loop-at-init c = search steps
-
-pub overflow_sub-at : goal.overflow_sub-at
-overflow_sub-at c = search steps
-
-pub offset_bounds-listing-at : goal.offset_bounds-listing-at
-offset_bounds-listing-at c = search steps
-
-pub bounds-listing-at : goal.bounds-listing-at
-bounds-listing-at c = search steps
-
-pub offset_bounds-listing-at-in-loop-at : goal.offset_bounds-listing-at-in-loop-at
-offset_bounds-listing-at-in-loop-at c = search steps
-
-pub bounds-listing-at-in-loop-at : goal.bounds-listing-at-in-loop-at
-bounds-listing-at-in-loop-at c = search steps
-
-pub is_above-requires : goal.is_above-requires
-is_above-requires c = search steps
-
-pub overflow_add-at-in-loop-at : goal.overflow_add-at-in-loop-at
-overflow_add-at-in-loop-at c = search steps
-
-pub loop-at-smaller : goal.loop-at-smaller
-loop-at-smaller c = search steps
-
-pub loop-at-preserved : goal.loop-at-preserved
-loop-at-preserved c = search steps
-
-pub returns-after-loop-at : goal.returns-after-loop-at
-returns-after-loop-at c = search steps
-
-pub returns-then-not-is_above : goal.returns-then-not-is_above
-returns-then-not-is_above c = search steps
+pub returns : goal.returns
+returns c =
+    let e = c.first_invalid.ensures in
+    let l = c.args.listing.now in
+    search_gives (term_above l) (c.args.start + 1) (length l) _ e.low e.high e.before e.invalid

@@ -1,10 +1,11 @@
 -- `listing::tables_valid` meets its contract: while the faults are of kind 0, the search has come to `at`. Assumes nothing.
-use mathlib.Core.Path.{◌≡◌, sym, ◌∙◌}
+use mathlib.Core.Path.{◌≡◌}
 use mathlib.Core.Bool.{Bool, true, ◌&&◌}
 use Prim.Native.Nat.{ℕ, ◌+◌, ◌<◌}
+use native.Mathlib.Omega.{arith}
 use lib.Bits.{bit_or}
 use Rattle.words.specs.Bits.{is_kind}
-use Rattle.words.proofs.Steps.{ValidSoFar, so_far_none, so_far_more, so_far_all, steps}
+use Rattle.words.proofs.Steps.{ValidSoFar, so_far_none, so_far_more, so_far_all}
 use Rattle.fields.proofs.SameKind.{joined_kind}
 use Rattle.listing.proofs.tables_valid.Goals as goal
 
@@ -24,22 +25,11 @@ faults-more faults fault p h e =
 
 -- by name, so that a wrong place or a wrong test is reported at this return
 pub loop-at-preserved : goal.loop-at-preserved
-loop-at-preserved c = (search steps, faults-more _ _ c.loop-at.invariant.1 (search steps) c.table_fault-faults.ensures)
+loop-at-preserved c = faults-more _ _ c.loop-at.invariant (omega arith) c.table_fault-faults.ensures
 
 pub loop-at-init : goal.loop-at-init
-loop-at-init c = (search steps, so_far_none)
-
-pub table_fault-faults-requires : goal.table_fault-faults-requires
-table_fault-faults-requires c = search steps
-
-pub overflow_add-at : goal.overflow_add-at
-overflow_add-at c = search steps
-
-pub loop-at-smaller : goal.loop-at-smaller
-loop-at-smaller c = search steps
-
-pub is_kind-requires : goal.is_kind-requires
-is_kind-requires c = search steps
+loop-at-init c = so_far_none
 
 pub returns : goal.returns
-returns c t = so_far_all _ c.loop-at.invariant.1 (search steps) (search steps) (sym c.is_kind.ensures ∙ t)
+unfolding is_kind
+returns c t = so_far_all _ c.loop-at.invariant (omega arith) (omega arith) (rw (← c.of.ensures) t)

@@ -1,12 +1,8 @@
 -- `listing::tables_valid` meets its contract: while the faults are of kind 0, the search has come to `at`. Assumes nothing.
-use Prim.Native.Nat.{◌-◌, ◌≤◌}
 use Rattle.words.specs.Bits.{is_kind}
 use Rattle.words.proofs.Steps.{ValidSoFar}
 use Rattle.listing.specs.Check.{table_word_valid}
 use Rattle.listing.proofs.tables_valid.Given as goal
 
 abbrev pub invariant-loop-at : goal.invariant-loop-at
-invariant-loop-at l = (l.at ≤ l.end) × ValidSoFar (table_word_valid l.listing) l.start l.end l.at (is_kind 0 l.faults)
-
-abbrev pub decreases-loop-at : goal.decreases-loop-at
-decreases-loop-at l = l.end - l.at
+invariant-loop-at l = ValidSoFar (table_word_valid l.listing) l.start l.end l.at (is_kind 0 l.faults)

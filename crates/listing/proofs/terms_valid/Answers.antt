@@ -7,7 +7,7 @@ use native.Mathlib.Omega.{arith}
 use lib.Dec.{ltb}
 use lib.ListN.{get_or}
 use Rattle.words.proofs.Answers.{and_left}
-use Rattle.words.proofs.Steps.{ValidSoFar, so_far_none, so_far_more, so_far_all, steps}
+use Rattle.words.proofs.Steps.{ValidSoFar, so_far_none, so_far_more, so_far_all}
 use Rattle.fields.specs.Valid.{term_order}
 use Rattle.fields.proofs.Valid.{above_order}
 use Rattle.listing.proofs.terms_valid.Goals as goal
@@ -40,7 +40,7 @@ loop-at-preserved c =
     let loop = order.before.before.before in
     let inv = loop.loop-at.invariant in
     let l = loop.args.listing.now in
-    let term = so_far_more _ _ inv.3 (omega arith) c.is_term_word.ensures in
+    let term = so_far_more _ _ inv.3 (omega arith) c.is_term_word-valid-in-loop-at.ensures in
     let above = ap₂ ltb inv.2 order.term_order-next.ensures ∙ above_order _ _ in
     (omega arith, omega arith, order-before l loop.loop-at.at _ order.term_order-next.ensures, with-test _ _ term, so_far_more _ _ (with-test _ _ inv.4) (omega arith) above)
 
@@ -52,48 +52,3 @@ pub returns : goal.returns
 returns c t =
     let inv = c.loop-at.invariant in
     (so_far_all _ inv.3 (omega arith) (omega arith) t, so_far_all _ inv.4 (omega arith) (omega arith) t)
-
-pub offset_bounds-listing-start : goal.offset_bounds-listing-start
-offset_bounds-listing-start c = search steps
-
-pub bounds-listing-start : goal.bounds-listing-start
-bounds-listing-start c = search steps
-
-pub is_term_word-valid-requires : goal.is_term_word-valid-requires
-is_term_word-valid-requires c = search steps
-
-pub offset_bounds-listing-start-2 : goal.offset_bounds-listing-start-2
-offset_bounds-listing-start-2 c = search steps
-
-pub bounds-listing-start-2 : goal.bounds-listing-start-2
-bounds-listing-start-2 c = search steps
-
-pub term_order-last-requires : goal.term_order-last-requires
-term_order-last-requires c = search steps
-
-pub overflow_add-at : goal.overflow_add-at
-overflow_add-at c = search steps
-
-pub offset_bounds-listing-at : goal.offset_bounds-listing-at
-offset_bounds-listing-at c = search steps
-
-pub bounds-listing-at : goal.bounds-listing-at
-bounds-listing-at c = search steps
-
-pub term_order-next-requires : goal.term_order-next-requires
-term_order-next-requires c = search steps
-
-pub offset_bounds-listing-at-in-loop-at : goal.offset_bounds-listing-at-in-loop-at
-offset_bounds-listing-at-in-loop-at c = search steps
-
-pub bounds-listing-at-in-loop-at : goal.bounds-listing-at-in-loop-at
-bounds-listing-at-in-loop-at c = search steps
-
-pub is_term_word-requires : goal.is_term_word-requires
-is_term_word-requires c = search steps
-
-pub overflow_add-at-in-loop-at : goal.overflow_add-at-in-loop-at
-overflow_add-at-in-loop-at c = search steps
-
-pub loop-at-smaller : goal.loop-at-smaller
-loop-at-smaller c = search steps

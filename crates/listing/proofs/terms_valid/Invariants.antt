@@ -11,6 +11,3 @@ abbrev pub invariant-loop-at : goal.invariant-loop-at
 invariant-loop-at l =
     (l.start < l.at) × (l.at ≤ length l.listing) × (l.last ≡ term_order (get_or l.listing (l.at - 1) 0)) × ValidSoFar (term_word_valid l.listing l.horizon) l.start (length l.listing) l.at l.valid
     × ValidSoFar (term_above l.listing) (l.start + 1) (length l.listing) l.at l.valid
-
-abbrev pub decreases-loop-at : goal.decreases-loop-at
-decreases-loop-at l = length l.listing - l.at

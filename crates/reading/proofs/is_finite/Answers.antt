@@ -1,7 +1,7 @@
 -- `reading::is_finite` meets its contract: what lies strictly between the two infinities is neither of them, and no NaN lies there. Assumes nothing.
-use mathlib.Core.Path.{◌≡◌, refl, sym}
+use mathlib.Core.Path.{◌≡◌, refl, sym, ◌∙◌}
 use mathlib.Core.Bool.{true, false}
-use lib.Ieee.{Float, nan, inf, fin, binary32, lt, of_bits, nan_bits}
+use lib.Ieee.{Float, nan, inf, fin, binary32, lt, of_bits}
 use Rattle.reading.specs.Metres.{is_finite}
 use Rattle.reading.proofs.is_finite.Goals as goal
 
@@ -18,16 +18,8 @@ not_below nan h = refl
 not_below (inf s) h = refl
 not_below (fin s m e) h = sym h
 
-pub float_from_bits-t-2 : goal.float_from_bits-t-2
-unfolding nan_bits
-float_from_bits-t-2 c = tt
-
-pub float_from_bits-result : goal.float_from_bits-result
-unfolding nan_bits
-float_from_bits-result c = tt
-
 pub returns-then-x : goal.returns-then-x
 returns-then-x c = below c.args.x c.if-x.true
 
-pub returns : goal.returns
-returns c = not_below c.args.x c.if-x.false
+pub returns-else-x : goal.returns-else-x
+returns-else-x c = c.if-x.false ∙ not_below c.args.x c.if-x.false

@@ -9,32 +9,32 @@ use Rattle.reading.specs.Metres.{numerator, denominator, mm}
 use Rattle.reading.proofs.Pattern.{Decomposed, Tiny, no_nan, tiny, full_parted}
 use Rattle.reading.proofs.Floor.{Below, Above, below, above, tiny_below, tiny_above}
 use Rattle.reading.proofs.mm_above_lowest.Goals as goal
-use Rattle.reading.proofs.mm_above_lowest.Goals.{After-bits-mantissa, Else-x-2, Start, Then-exponent-lt87, Then-x-2}
+use Rattle.reading.proofs.mm_above_lowest.Goals.{After-of-mantissa, Else-x-2, Start, Then-exponent-lt87, Then-x-2}
 
 -- what owning an `f32` gives: the format holds it
 held : (c : Start) → T (fits binary32 c.args.x)
 held c = subst T (sym c.well_formed.0.1) tt
 
 near : (c : Then-exponent-lt87) → Tiny c.args.x
-near c = let s = c.before.before in tiny s.args.x (held s) s.requires _ _ c.bits-exponent.ensures refl c.if-exponent-lt87.true
+near c = let s = c.before.before.before in tiny s.args.x (held s) s.requires _ _ c.of-exponent.ensures refl c.if-exponent-lt87.true
 
-full : (c : After-bits-mantissa) → let b = c.before.before in
-    (b.bits-exponent.result ≤ 138) × Decomposed b.args.x (c.bits-mantissa.result + 2 ^ 23) (150 - b.bits-exponent.result)
+full : (c : After-of-mantissa) → let b = c.before.before in
+    (b.of-exponent.result ≤ 138) × Decomposed b.args.x (c.of-mantissa.result + 2 ^ 23) (150 - b.of-exponent.result)
 full c =
-    let b = c.before.before in
-    let s = b.before in
-    let apart : b.bits-exponent.result ≡ 0 → ⊥ = λ z. omega arith in
-    full_parted s.args.x (held s) s.requires _ _ b.bits-exponent.ensures c.bits-mantissa.ensures apart
+    let b = c.before.before.before in
+    let s = b.before.before in
+    let apart : b.of-exponent.result ≡ 0 → ⊥ = λ z. omega arith in
+    full_parted s.args.x (held s) s.requires _ _ b.of-exponent.ensures c.of-mantissa.ensures apart
 
 negative : (c : Then-x-2) →
     let x = c.args.x in
-    Below (numerator x) (denominator x) (c.bits-mantissa.result + 2 ^ 23) (150 - c.bits-exponent.result)
-negative c = below _ _ _ (full c.before).1 c.requires c.if-x-2.true
+    Below (numerator x) (denominator x) c.from-n.result (150 - c.of-exponent.result)
+negative c = rw c.from-n.ensures (below _ _ _ (full c.before.before).1 c.requires c.if-x-2.true)
 
 positive : (c : Else-x-2) →
     let x = c.args.x in
-    Above (numerator x) (denominator x) (c.bits-mantissa.result + 2 ^ 23) (150 - c.bits-exponent.result)
-positive c = above _ _ _ (full c.before).1 c.requires c.if-x-2.false
+    Above (numerator x) (denominator x) c.from-n.result (150 - c.of-exponent.result)
+positive c = rw c.from-n.ensures (above _ _ _ (full c.before.before).1 c.requires c.if-x-2.false)
 
 pub returns-then-x-2 : goal.returns-then-x-2
 unfolding mm

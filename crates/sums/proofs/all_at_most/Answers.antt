@@ -1,27 +1,13 @@
--- `sums::all_at_most` meets its contract: the values before i are not above `most`, so the test of the rest is the whole test. Assumes nothing.
-use Rattle.sums.proofs.Steps.{sums}
+-- `sums::all_at_most` meets its contract: it makes the definition's test of each value. Assumes nothing.
+use Rattle.std.proofs.Common.{rules, ◌∙◌}
+use Rattle.std.proofs.lemmas.Iterator.{YieldsList-from_slice}
+use Rattle.std.proofs.lemmas.Iterator.Search.{all_from_yields_List}
+use Rattle.std.proofs.Math.Dec.{leb}
+use borrow.Author.Tests.{tests}
+use Rattle.sums.proofs.Steps.{all_at_most_by}
 use Rattle.sums.proofs.all_at_most.Goals as goal
 
-pub loop-i-init : goal.loop-i-init
-loop-i-init c = search sums
-
-pub offset_bounds-values-i : goal.offset_bounds-values-i
-offset_bounds-values-i c = search sums
-
-pub bounds-values-i : goal.bounds-values-i
-bounds-values-i c = search sums
-
-pub returns-then-most-values : goal.returns-then-most-values
-returns-then-most-values c = search sums
-
-pub overflow_add-i : goal.overflow_add-i
-overflow_add-i c = search sums
-
-pub loop-i-smaller : goal.loop-i-smaller
-loop-i-smaller c = search sums
-
-pub loop-i-preserved : goal.loop-i-preserved
-loop-i-preserved c = search sums
-
 pub returns : goal.returns
-returns c = search sums
+returns c =
+    all_from_yields_List (λ x. leb x c.args.most) _ _ _ c.all.ensures.ran (YieldsList-from_slice c.args.values.now cc) (λ x b q k. (search rules, search (rules, tests)))
+    ∙ all_at_most_by c.args.most c.args.values.now

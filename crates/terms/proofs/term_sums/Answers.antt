@@ -1,26 +1,25 @@
--- `terms::term_sums` meets its contract: of both sums, what is summed and what is left make the whole. Assumes nothing.
+-- `terms::term_sums` meets its contract: both sums are those of the words so far. Assumes nothing.
+use mathlib.Core.Path.{refl}
 use mir.Syntax.{w64}
-use borrow.Author.Rules.{rules}
 use Rattle.words.proofs.Signed.{call_reads}
-use Rattle.terms.proofs.Sums.{tonnes_size, up_to_size, part_none, part_adds, part_next, part_end}
+use Rattle.terms.specs.Terms.{total}
+use Rattle.terms.proofs.Sums.{tonnes_size, up_to_size, sum_fits, sum_next}
+use Rattle.fields.specs.Fields.{tonnes_of}
+use Rattle.terms.specs.Split.{up_to}
 use Rattle.terms.proofs.term_sums.Goals as goal
 
-pub loop-at-init : goal.loop-at-init
-loop-at-init c = (search rules, part_none, part_none)
+pub loop-word-init : goal.loop-word-init
+unfolding total
+loop-word-init c = (refl, refl)
 
 pub overflow_add-all : goal.overflow_add-all
-overflow_add-all c = part_adds c.loop-at.invariant.1 (call_reads w64 c.tonnes-all.type_inv c.tonnes-all.ensures) tonnes_size (search rules)
+overflow_add-all c = sum_fits tonnes_of tonnes_size _ c.requires _ c.loop-word.invariant.0 (call_reads w64 c.tonnes-all.type_inv c.tonnes-all.ensures)
 
 pub overflow_add-buffered : goal.overflow_add-buffered
-overflow_add-buffered c = part_adds c.loop-at.invariant.2 (call_reads w64 c.up_to-buffered.type_inv c.up_to-buffered.ensures) (up_to_size 5) (search rules)
+overflow_add-buffered c = sum_fits (up_to 5) (up_to_size 5) _ c.requires _ c.loop-word.invariant.1 (call_reads w64 c.up_to-buffered.type_inv c.up_to-buffered.ensures)
 
-pub loop-at-preserved : goal.loop-at-preserved
-loop-at-preserved c =
-    let inv = c.loop-at.invariant in (
-      search rules,
-      part_next inv.1 (call_reads w64 c.tonnes-all.type_inv c.tonnes-all.ensures) tonnes_size (search rules),
-      part_next inv.2 (call_reads w64 c.up_to-buffered.type_inv c.up_to-buffered.ensures) (up_to_size 5) (search rules),
-    )
-
-pub returns : goal.returns
-returns c = (part_end c.loop-at.invariant.1 (search rules), part_end c.loop-at.invariant.2 (search rules))
+pub loop-word-preserved : goal.loop-word-preserved
+loop-word-preserved c = (
+  sum_next tonnes_of tonnes_size _ c.requires _ c.loop-word.invariant.0 (call_reads w64 c.tonnes-all.type_inv c.tonnes-all.ensures) c.loop-word-test.true,
+  sum_next (up_to 5) (up_to_size 5) _ c.requires _ c.loop-word.invariant.1 (call_reads w64 c.up_to-buffered.type_inv c.up_to-buffered.ensures) c.loop-word-test.true,
+)

@@ -1,13 +1,10 @@
--- `terms::term_sums` meets its contract: of both sums, what is summed and what is left make the whole. Assumes nothing.
-use Prim.Native.Nat.{◌-◌, ◌≤◌}
-use lib.ListN.{length}
+-- `terms::term_sums` meets its contract: both sums are those of the words so far. Assumes nothing.
+use mathlib.Core.Path.{◌≡◌}
+use lib.ListN.{take}
 use Rattle.fields.specs.Fields.{tonnes_of}
+use Rattle.terms.specs.Terms.{total}
 use Rattle.terms.specs.Split.{up_to}
-use Rattle.terms.proofs.Sums.{Part}
 use Rattle.terms.proofs.term_sums.Given as goal
 
-abbrev pub invariant-loop-at : goal.invariant-loop-at
-invariant-loop-at l = (l.at ≤ length l.words) × Part tonnes_of l.words l.at l.all × Part (up_to 5) l.words l.at l.buffered
-
-abbrev pub decreases-loop-at : goal.decreases-loop-at
-decreases-loop-at l = length l.words - l.at
+abbrev pub invariant-loop-word : goal.invariant-loop-word
+invariant-loop-word l = (l.all ≡ total tonnes_of (take l.word-index l.words)) × (l.buffered ≡ total (up_to 5) (take l.word-index l.words))

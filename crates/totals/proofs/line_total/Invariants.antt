@@ -1,12 +1,8 @@
--- `totals::line_total` meets its contract: in iteration i the sum is that of the first i cells, below 2 ^ 28 each. Assumes nothing.
-use mathlib.Core.Path.{◌≡◌}
-use Prim.Native.Nat.{◌-◌, ◌*◌, ◌^◌, ◌≤◌}
+-- `totals::line_total` meets its contract: the sum is that of the cells so far, below 2 ^ 28 each. Assumes nothing.
+use Rattle.std.proofs.Common.{◌≡◌, ◌*◌, ◌^◌, ◌≤◌}
 use Rattle.words.specs.Sums.{sum_below}
 use Rattle.book.specs.Layout.{line_at}
 use Rattle.totals.proofs.line_total.Given as goal
 
-abbrev pub invariant-loop-i : goal.invariant-loop-i
-invariant-loop-i l = (l.i ≤ l.cells) × (l.sum ≤ 2 ^ 28 * l.i) × (l.sum ≡ sum_below (line_at l.line l.lines) l.i)
-
-abbrev pub decreases-loop-i : goal.decreases-loop-i
-decreases-loop-i l = l.cells - l.i
+abbrev pub invariant-loop-cell : goal.invariant-loop-cell
+invariant-loop-cell l = (l.sum ≤ 2 ^ 28 * l.cell-index) × (l.sum ≡ sum_below (line_at l.place l.fn.lines) l.cell-index)

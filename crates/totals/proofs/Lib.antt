@@ -1,0 +1,2 @@
+-- A law of the proof below.
+pub mod Lines
