@@ -14,7 +14,8 @@ ghost use Rattle.balance.specs.Balance.{peat_tonnes, most_peat, withheld, balanc
 use book::OpenBook;
 use listing::Listing;
 
-// The kg to date of all cells, added.
+// The kg to date of all cells, added: a loop of its own, since one sum for this and for others would take a
+// closure, whose contract is longer than the loop.
 fn kg_to_date(book: &OpenBook<'_>) -> u64
     ensures { result ≡ sum_below (kg_to_date book.now.listing.words.now book.now.words.now) (cells book.now.listing.words.now) }
 {
@@ -32,14 +33,15 @@ fn peat_tonnes(book: &OpenBook<'_>) -> u64
     kg_to_date(book) / 1000
 }
 
-// A number, or 0 where it is below 0; no conversion of the library does that in one step.
+// A number, or 0 where it is below 0.
 fn at_least_0(z: i64) -> u64
     ensures { result ≡ at_least_0 z }
 {
-    if z < 0 { 0 } else { z as u64 }
+    z.max(0) as u64
 }
 
-// Peat and the other terms to date, added.
+// Peat and the other terms to date, added. A cast, here and below: no `From` makes an i64 of a u64, and a
+// `TryFrom` would answer a failure that cannot be.
 fn with_peat(peat: u64, terms: i64) -> i64
     requires { (peat ≤ most_peat) × (nat_abs terms ≤ most_term_sum_below) }
     ensures { result ≡ pos peat +ℤ terms }

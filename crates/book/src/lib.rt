@@ -1,5 +1,5 @@
 // The book: where its words are and what they hold, its check, and the refusals with which every
-// call begins. Each takes the book's shape.
+// call begins. What goes by a book's shape takes it.
 #![tactic(auto)]
 
 ghost use Rattle.std.specs.Prelude.{◌≡◌, true, ◌+◌, ◌*◌, ◌^◌, ◌<◌, ◌≤◌, length, set, IfOk};
@@ -19,11 +19,11 @@ ghost use Rattle.fields.proofs.Valid.{listed_prop};
 
 use fields::{Cell, Head};
 use listing::Listing;
-use words::{Field, Kind, PAYLOAD, Reason, Refusal, first_invalid, need, refuse};
+use words::{Field, Kind, PAYLOAD, Reason, Refusal, first_invalid, need};
 use year::Entry;
 
-// How many words a book's head has, and a cell in it. `Shaped` stays a fact of clauses: as a ghost field its
-// proof would stand in each shape of the definitions.
+// How many words a book's head has, and a cell in it. `Shaped` stays a fact of clauses: as a ghost field,
+// each shape that a definition writes would have to carry its proof.
 #[derive(Clone, Copy, Debug, PartialEq, Eq)]
 pub struct Shape {
     pub head: usize,
@@ -36,7 +36,7 @@ pub const BOOK: Shape = Shape { head: 2, entry: 3 };
 // The words of a cell in the lines of a closing.
 pub const LINE_WORDS: usize = 3;
 
-// The bits of a cell's mark and of its plan year, and those between the plan year and the kind that are 0.
+// The bits of a cell's mark and of its plan year, and those between the mark and the kind, which are 0.
 const MARK: Field = Field { high: 8, low: 8 };
 
 const PLAN: Field = Field { high: 7, low: 0 };
@@ -49,7 +49,7 @@ const YEAR_AT: usize = 0;
 const ISSUED_AT: usize = 1;
 
 // An accepted listing, and a slice with space for its book, whose words are not tested yet.
-#[derive(Clone, Copy)]
+#[derive(Clone, Copy, Debug, PartialEq, Eq)]
 struct FittedBook<'a> {
     shape: Shape,
     listing: Listing<'a>,
@@ -58,9 +58,10 @@ struct FittedBook<'a> {
     ghost capacity: { book_size shape (cells listing.words.now) ≤ length words.now },
 }
 
-// An accepted listing, and an accepted book for it. A slice that is lent to be written has no such type,
-// and its facts stay in clauses: they are false between the writes of its words.
-#[derive(Clone, Copy)]
+// An accepted listing, and an accepted book for it. Of a slice that is lent to be written the facts stay in
+// clauses: that it is accepted is false between two writes, and a struct with its length alone would have to
+// lend it again at each. So do those of functions that read a book of any shape, since this is of one.
+#[derive(Clone, Copy, Debug, PartialEq, Eq)]
 pub struct OpenBook<'a> {
     pub listing: Listing<'a>,
     pub words: &'a [u32],
@@ -75,7 +76,7 @@ pub fn entry_at(s: Shape, i: usize) -> usize
     s.head + s.entry * i
 }
 
-// The words of cell `i`.
+// The words of cell `i`, in a book of any shape, of which no more is known than that it is long enough.
 pub fn words_of(s: Shape, book: &[u32], i: usize) -> &[u32]
     requires { CellInBook s book.now i }
     ensures { result.now ≡ words_of s book.now i }
@@ -105,7 +106,8 @@ fn is_burned_word(before: u32, w: u32, most: u32) -> bool
     Kind::Burned.is_of(w) & (PAYLOAD.of(before) + PAYLOAD.of(w) <= most)
 }
 
-// Whether the word at `k` of the head is valid: which it is, its place says.
+// Whether the word at `k` of the head is valid: which it is, its place says, by a branch as in the
+// definition.
 fn is_head_word(w: u32, k: usize, horizon: u32) -> bool
     ensures { result ≡ is_head_word horizon k w }
 {
@@ -115,23 +117,9 @@ fn is_head_word(w: u32, k: usize, horizon: u32) -> bool
     Kind::Issued.is_of(w)
 }
 
-// The first word of a book's head that is invalid; where there is none, the head's size.
-fn first_invalid_head_word(s: Shape, h: Head, book: &[u32]) -> usize
-    requires { s.head ≤ length book.now }
-    ensures { result ≡ first_invalid (head_word_valid h.horizon book.now) 0 s.head }
-{
-    first_invalid(
-        0,
-        s.head,
-        |k: usize| -> bool
-            requires { k < length book.now }
-            ensures { result ≡ head_word_valid h.horizon book.entry.now k }
-        { is_head_word(book[k], k, h.horizon) },
-    )
-}
-
-// Whether all of a cell's own words are valid: without a branch for each, since most are. They are lent as
-// a slice, since a cell of a coming shape has more.
+// Whether all of a cell's own words are valid: without a branch for each, since most are; with one a
+// closing took 12 percent longer. They are lent as a slice, since a cell of a coming shape has more. Head and
+// cell are two parameters, here and below, as in `year`.
 fn entry_valid(h: Head, c: Cell, entry: &[u32]) -> bool
     requires { Sized (length entry.now) }
     ensures { result ≡ true → All (entry_word_valid h c entry.now) (length entry.now) }
@@ -141,7 +129,8 @@ fn entry_valid(h: Head, c: Cell, entry: &[u32]) -> bool
     plan & oxidised & is_burned_word(entry[1], entry[2], year::most_loss(h, c))
 }
 
-// The first of a cell's own words that is invalid; where there is none, their number.
+// The first of a cell's own words that is invalid; where there is none, their number. Three words of three
+// kinds, tested in turn: a search by place would choose the test by the place.
 fn first_invalid_entry_word(h: Head, c: Cell, entry: &[u32]) -> usize
     requires { Sized (length entry.now) }
     ensures { result ≡ first_invalid (entry_word_valid h c entry.now) 0 (length entry.now) }
@@ -166,7 +155,23 @@ impl FittedBook<'_> {
         entry_at(self.shape, self.listing.figures.cells as usize)
     }
 
-    // Whether the words of all cells are valid, without a branch for each cell.
+    // The first word of the head that is invalid; where there is none, the head's size.
+    fn first_invalid_head_word(&self) -> usize
+        ensures { result ≡ first_invalid (head_word_valid self.now.listing.figures.horizon self.now.words.now) 0 self.now.shape.head }
+    {
+        let horizon = self.listing.figures.horizon;
+        let book = self.words;
+        first_invalid(
+            0,
+            self.shape.head,
+            |k: usize| -> bool
+                requires { k < length book.now }
+                ensures { result ≡ head_word_valid horizon book.entry.now k }
+            { is_head_word(book[k], k, horizon) },
+        )
+    }
+
+    // Whether the words of all cells are valid, without a branch for each cell: most are.
     fn cells_valid(&self) -> bool
         ensures { result ≡ true →
             book_size self.now.shape (cells self.now.listing.words.now)
@@ -180,7 +185,8 @@ impl FittedBook<'_> {
         valid
     }
 
-    // The first word of the cells that is invalid; where there is none, the book's size.
+    // The first word of the cells that is invalid; where there is none, the book's size. Cell by cell, so
+    // that a cell's figures are read once and not for each of its words.
     fn first_invalid_cell_word(&self) -> usize
         ensures { result
             ≡ first_invalid (book_word_valid self.now.shape self.now.listing.words.now self.now.words.now) self.now.shape.head (book_size self.now.shape (cells self.now.listing.words.now)) }
@@ -200,7 +206,7 @@ impl FittedBook<'_> {
         ensures { result
             ≡ first_invalid (book_word_valid self.now.shape self.now.listing.words.now self.now.words.now) 0 (book_size self.now.shape (cells self.now.listing.words.now)) }
     {
-        let k = first_invalid_head_word(self.shape, self.listing.figures, self.words);
+        let k = self.first_invalid_head_word();
         if k < self.shape.head {
             return k;
         }
@@ -242,10 +248,7 @@ pub fn check_book(s: Shape, listing: &Listing<'_>, book: &[u32]) -> Result<(), R
         words: book,
     };
     let at = fitted.first_invalid_word();
-    if at < fitted.size() {
-        return refuse(Reason::BookWord, at);
-    }
-    Ok(())
+    need(fitted.size() <= at, Reason::BookWord, at)
 }
 
 // Numbers 1 to 6 and 8, with which every call on an open book but a closing begins.
@@ -272,7 +275,8 @@ pub fn read<'a>(listing: &'a [u32], book: &'a [u32]) -> Result<OpenBook<'a>, Ref
     })
 }
 
-// The number in `n` words, one or two, from `from` on: by place and count, as the definitions have it.
+// The number in `n` words, one or two, from `from` on: by place and count, here and where it is written,
+// as the definitions have it.
 fn joined(book: &[u32], from: usize, n: usize) -> u64
     requires { (n ≤ 2) × (from + n ≤ length book.now) }
     ensures { result ≡ joined book.now from n }
@@ -300,7 +304,8 @@ pub fn issued(s: Shape, book: &[u32]) -> u64
     joined(book, ISSUED_AT, s.head - ISSUED_AT)
 }
 
-// The entry that a cell's own words hold. Three of them at least are asked for, which no `From` can do.
+// The entry that a cell's own words hold. A slice of three words or more, since a cell of a coming shape
+// has more, and a `From` could not ask for three.
 pub fn entry_of(words: &[u32]) -> Entry
     requires { 3 ≤ length words.now }
     ensures { result ≡ entry_of words.now }
@@ -394,6 +399,7 @@ pub fn put_entry(words: &mut [u32], e: Entry)
     words[2] = Kind::Burned.word(e.burned);
 }
 
+// The functions above, for the shape in use.
 impl OpenBook<'_> {
     // The current year.
     pub fn year(&self) -> u32

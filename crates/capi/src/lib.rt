@@ -1,5 +1,5 @@
-// The calls for C and Rust: numbers and slices cross the border, and answers as structs. A slice is
-// a pointer and then its length; include/peat.h has the declarations.
+// The calls for C and Rust: they take numbers and slices, and answer structs. A slice is a pointer and then
+// its length; include/peat.h has the declarations.
 #![tactic(auto)]
 
 ghost use Rattle.std.specs.Prelude.{◌≡◌};

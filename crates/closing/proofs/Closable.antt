@@ -12,18 +12,21 @@ use Rattle.words.proofs.Answers.{need_accepted, need_all_accepted, after_accepte
 use Rattle.fields.specs.declared.Cell.{Cell}
 use Rattle.listing.specs.Layout.{head, cells, strata, horizon, row, cell}
 use Rattle.listing.specs.Accepted.{Accepted}
-use Rattle.year.specs.Year.{inactive, age, most_line, year_loss, after_loss}
+use Rattle.year.specs.Year.{inactive, age, most_line, loss_of, year_loss, after_loss}
 use Rattle.year.specs.Limits.{WithinLimits}
 use Rattle.year.specs.declared.Entry.{Entry}
-use Rattle.year.proofs.Laws.{active, converted, most_entered, year_most, year_kg_most}
+use Rattle.year.specs.declared.Loss.{Loss}
+use Rattle.fields.specs.declared.Head.{Head}
+use Rattle.fields.specs.declared.Row.{Row}
+use Rattle.year.proofs.Laws.{active, converted, most_entered, year_most, year_kg_most, loss_active}
 use Rattle.book.specs.Current.{current, entry, fitted, book_checked, admitted, AcceptedBook}
-use Rattle.book.specs.Layout.{line_words, year}
+use Rattle.book.specs.Layout.{line_words, year, entry_of}
 use Rattle.book.specs.AcceptedBook.{Storable, EntryValid}
 use Rattle.book.proofs.Valid.{admitted_valid, valid_checked, checked_admits}
 use Rattle.book.proofs.AcceptedBook.{shaped, accepted_book}
 use Rattle.book.proofs.Held.{valid_storable}
 use Rattle.book.proofs.Keeps.{admitted_fitted}
-use Rattle.closing.specs.Closing.{loss, EveryLine, lines_checked, most_payload, line_fits, year_checked, close_answer}
+use Rattle.closing.specs.Closing.{loss, cell_loss, EveryLine, lines_checked, most_payload, line_fits, year_checked, close_answer}
 use Rattle.closing.specs.Closable.{CellYear, NextYear, Closable}
 
 -- ---- a cell that is worked out
@@ -52,6 +55,16 @@ module _ {l : List ℕ} (a : Accepted l) {c : Cell} {e : Entry} {t : ℕ} (g : C
       let p = converted e.plan t (active (head l) c e t q).0 in
       let time = g.in_time in
       (p.1, g.cell_valid.stratum, omega arith, omega arith)
+
+-- r is the row that was read, and s the loss that was answered by it
+pub active_loss_lem : (l : List ℕ) (h : Head) (c : Cell) (e : Entry) (t : ℕ) → h ≡ head l → inactive (head l) c e t ≡ false →
+    (r : Row) → r ≡ row l c.stratum (age e.plan t) → (s : Loss) → s ≡ loss_of h c r e → s ≡ year_loss (head l) (row l) c e t
+active_loss_lem l h c e t h_is q r r_is s s_is = (rw (r_is, h_is) at s_is) ∙ sym (loss_active (head l) (row l) c e t q)
+
+-- s is the loss that was answered for the cell c and the entry e, which were read from a cell's own words w
+pub step_loss : (l : List ℕ) (t i : ℕ) (w : List ℕ) {c : Cell} {e : Entry} {s : Loss} → c ≡ cell l i → e ≡ entry_of w → s ≡ year_loss (head l) (row l) c e t →
+    s ≡ cell_loss l t i (entry_of w)
+step_loss l t i w c_is e_is s_is = rw (c_is, e_is) at s_is
 
 -- every cell of a valid book can be
 pub next_cell_year : {l b : List ℕ} {t : ℕ} → NextYear l b t → (i : ℕ) → i < cells l → CellYear l (cell l i) (entry b i) t

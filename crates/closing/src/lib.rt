@@ -6,13 +6,13 @@ ghost use Rattle.words.specs.Blocks.{filled};
 ghost use Rattle.words.specs.Answers.{outcome};
 ghost use Rattle.listing.specs.Layout.{head, cells, row, cell};
 ghost use Rattle.year.specs.Year.{inactive, kg_of, year_loss, after_loss};
-ghost use Rattle.book.specs.Current.{current, AcceptedBook};
+ghost use Rattle.book.specs.Current.{current};
 ghost use Rattle.book.specs.Layout.{line_words, entry_of, held_words, lines_of};
 ghost use Rattle.book.specs.AcceptedBook.{CellWordsValid};
 ghost use Rattle.closing.specs.Closing.{cell_loss, closed_words, book_after, lines_after, lines_checked, most_payload, year_checked, close_answer};
 ghost use Rattle.closing.specs.Closable.{CellYear, NextYear, Closable};
 
-use book::{BOOK, LINE_WORDS};
+use book::{BOOK, LINE_WORDS, OpenBook};
 use fields::Cell;
 use listing::Listing;
 use words::{Kind, Reason, Refusal, need};
@@ -44,15 +44,14 @@ pub fn cell_loss(listing: &Listing<'_>, c: Cell, e: Entry, before: u32, year: u3
 
 // Number 9, for a valid book. Number 14 comes after it, and is proved not to arise: no kg line is
 // above `most_line` of year/specs/Year.antt.
-fn check_year(listing: &Listing<'_>, book: &[u32]) -> Result<(), Refusal>
-    requires { AcceptedBook listing.now.words.now book.now }
-    ensures { outcome result ≡ year_checked listing.now.words.now book.now }
+fn check_year(book: &OpenBook<'_>) -> Result<(), Refusal>
+    ensures { outcome result ≡ year_checked book.now.listing.words.now book.now.words.now }
 {
-    let ahead = book::year(book) < listing.figures.horizon;
+    let ahead = book.year() < book.listing.figures.horizon;
     need(ahead, Reason::HorizonReached, 0)
 }
 
-// Number 7, for a valid listing.
+// Number 7, for a valid listing. The lines are lent to be written later: their length alone goes along.
 fn check_lines(listing: &Listing<'_>, capacity: usize) -> Result<(), Refusal>
     ensures { outcome result ≡ lines_checked listing.now.words.now capacity }
 {
@@ -60,8 +59,8 @@ fn check_lines(listing: &Listing<'_>, capacity: usize) -> Result<(), Refusal>
     need(size <= capacity, Reason::LinesShort, capacity)
 }
 
-// Whether a year can be closed with a lines buffer of `capacity` words, its length alone counts here:
-// numbers 1 to 6, then 7, then 8 and 9. This writes nothing.
+// Whether a year can be closed with a lines buffer of `capacity` words, of which the length alone counts
+// here: numbers 1 to 6, then 7, then 8 and 9. This writes nothing.
 pub fn may_close<'a>(
     listing: &'a [u32],
     book: &[u32],
@@ -73,12 +72,16 @@ pub fn may_close<'a>(
     let accepted = book::fits(BOOK, listing, book)?;
     check_lines(&accepted, capacity)?;
     book::check_book(BOOK, &accepted, book)?;
-    check_year(&accepted, book)?;
+    let open = OpenBook {
+        listing: accepted,
+        words: book,
+    };
+    check_year(&open)?;
     Ok(accepted)
 }
 
 // Closes cell `i`, whose own words are lent: adds the year's mm to its mm to date. The kg to date of a
-// cell that is inactive are not worked out.
+// cell that is inactive are not worked out. What is known of the words is a clause, since they are written.
 fn close_cell(entry: &mut [u32], listing: &Listing<'_>, i: usize, year: u32) -> Loss
     requires { CellWordsValid (head listing.now.words.now) (cell listing.now.words.now i) entry.old × (i < cells listing.now.words.now)
         × CellYear listing.now.words.now (cell listing.now.words.now i) (entry_of entry.old) year }
@@ -110,7 +113,8 @@ fn put_lines(lines: &mut [u32], s: Loss)
     lines[2] = Kind::KgLine.word(s.kg);
 }
 
-// Closes every cell: its words in the book, and its lines.
+// Closes every cell: its words in the book, and its lines. They are lent to its step by place, the form that
+// document 01 asks for; an opening and a forecast walk over the cells so too, each with a step of its own.
 fn close_cells(listing: &Listing<'_>, book: &mut [u32], lines: &mut [u32], year: u32)
     requires { NextYear listing.now.words.now book.old year × Closable listing.now.words.now book.old (length lines.old) }
     ensures new_book { book.new ≡ filled current.entry book.old current.head (closed_words listing.now.words.now book.old) (cells listing.now.words.now) }

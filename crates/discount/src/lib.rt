@@ -8,14 +8,14 @@ ghost use Rattle.sums.specs.Sums.{weighted};
 ghost use Rattle.discount.specs.Discount.{discount, lengths_valid, factor, rounded_down};
 ghost use Rattle.discount.specs.Bounds.{pool_valid, most_stock, most_squares, root_limit, Bounded, TooLarge, StockSums};
 
-use words::{Reason, Refusal, refuse};
+use words::{Reason, Refusal, need, refuse};
 
 const MOST_POOLS: usize = 5;
 
 const MOST_VALUE: u32 = 20_000; // of a value, in tenths of t CO2e per ha
 
 // Four lists with one value for each of one to five carbon pools.
-#[derive(Clone, Copy)]
+#[derive(Clone, Copy, Debug, PartialEq, Eq)]
 struct Pools<'a> {
     first_widths: &'a [u32],
     second_widths: &'a [u32],
@@ -25,7 +25,7 @@ struct Pools<'a> {
 }
 
 // The sums of both classes' stocks.
-#[derive(Clone, Copy)]
+#[derive(Clone, Copy, Debug, PartialEq, Eq)]
 struct StockTotals {
     first: u64,
     second: u64,
@@ -85,15 +85,12 @@ impl Pools<'_> {
         requires { TooLarge self.now.first_widths.now self.now.second_widths.now self.now.first_stocks.now self.now.second_stocks.now }
         ensures { amount result ≡ discount self.now.first_widths.now self.now.second_widths.now self.now.first_stocks.now self.now.second_stocks.now }
     {
-        if !sums::all_at_most(MOST_VALUE, self.first_widths) {
-            return refuse(Reason::ValueTooLarge, 0);
-        }
-        if !sums::all_at_most(MOST_VALUE, self.second_widths) {
-            return refuse(Reason::ValueTooLarge, 1);
-        }
-        if !sums::all_at_most(MOST_VALUE, self.first_stocks) {
-            return refuse(Reason::ValueTooLarge, 2);
-        }
+        let valid = sums::all_at_most(MOST_VALUE, self.first_widths);
+        need(valid, Reason::ValueTooLarge, 0)?;
+        let valid = sums::all_at_most(MOST_VALUE, self.second_widths);
+        need(valid, Reason::ValueTooLarge, 1)?;
+        let valid = sums::all_at_most(MOST_VALUE, self.first_stocks);
+        need(valid, Reason::ValueTooLarge, 2)?;
         refuse(Reason::ValueTooLarge, 3)
     }
 }
@@ -108,7 +105,8 @@ fn newton_step(n: u32, r: u32) -> u32
 }
 
 // The root of n, rounded down. A discount asks for no n below 2,250,000; of those from there on one
-// in a hundred takes a fourth step: the loop goes by no index.
+// in a hundred takes a fourth step: the loop goes by no index. By the library's `isqrt` a discount takes half
+// as long again.
 #[tactic(auto, using(crate::proofs::Newton::steps))]
 fn root(n: u32) -> u32
     requires { n < root_limit }
@@ -150,7 +148,7 @@ fn factor(q: u64, d: u64) -> u32
 }
 
 // The discount of two classes in ten-thousandths, or why the lists are refused and which: each list
-// has one value for each carbon pool.
+// has one value for each carbon pool. Four parameters, since C gives four lists.
 #[tactic(auto, using(words::proofs::Answers::answers, crate::proofs::Bounds::distance_le), unfolding(crate::specs::Discount::discount))]
 pub fn discount(
     first_widths: &[u32],
@@ -160,14 +158,13 @@ pub fn discount(
 ) -> Result<u32, Refusal>
     ensures { amount result ≡ discount first_widths.now second_widths.now first_stocks.now second_stocks.now }
 {
-    if !lengths_valid(
+    let lengths = lengths_valid(
         first_widths.len(),
         second_widths.len(),
         first_stocks.len(),
         second_stocks.len(),
-    ) {
-        return refuse(Reason::ListLengths, 0);
-    }
+    );
+    need(lengths, Reason::ListLengths, 0)?;
     let pools = Pools {
         first_widths,
         second_widths,

@@ -97,7 +97,7 @@ pub struct Row {
     pub burning: u32,
 }
 
-// The figures of a cell.
+// The figures of a cell; a conversion of 0 is none, as its word has it.
 #[derive(Clone, Copy, Debug, PartialEq, Eq)]
 pub struct Cell {
     pub stratum: u32,
@@ -107,7 +107,7 @@ pub struct Cell {
     pub density: u32,
 }
 
-// A term of a year.
+// A term of a year. Terms go by the number that the methodology gives them, since S takes those up to 5.
 #[derive(Clone, Copy, Debug, PartialEq, Eq)]
 pub struct YearlyTerm {
     pub term: u32,
@@ -151,7 +151,7 @@ pub fn table_fault(w: u32) -> u32
     w ^ Kind::Table.word(0)
 }
 
-// Whether w is valid as a cell's first word.
+// Whether w is valid as a cell's first word, by the two figures of word 0 that its ranges go by.
 pub fn is_depth_word(w: u32, strata: u32, horizon: u32) -> bool
     ensures { result ≡ is_depth_word strata horizon w }
 {
@@ -171,7 +171,7 @@ pub fn is_area_word(w: u32) -> bool
         & DENSITY.is_within(w, 1, MOST_DENSITY)
 }
 
-// Whether w is valid as a term.
+// Whether w is valid as a term: 1, or 3 and more.
 pub fn is_term_word(w: u32, horizon: u32) -> bool
     ensures { result ≡ is_term_word horizon w }
 {
@@ -180,7 +180,8 @@ pub fn is_term_word(w: u32, horizon: u32) -> bool
         & YEAR.is_within(w, 1, horizon)
 }
 
-// A term's place in the order of terms: by year, then by term, which has 4 bits.
+// A term's place in the order of terms: by year, then by term, which has 4 bits. One number, which a pass
+// over the terms compares without the branch that an order of pairs has.
 pub fn term_order(w: u32) -> u32
     ensures { result ≡ term_order w }
 {
@@ -224,7 +225,7 @@ impl From<u32> for Row {
     }
 }
 
-// The figures of a cell's two words.
+// The figures of a cell's two words, not by a `From`, as above.
 pub fn cell_of(w: u32, v: u32) -> Cell
     ensures { result ≡ cell_of w v }
 {

@@ -16,7 +16,7 @@ use listing::Listing;
 use words::{Reason, Refusal, need};
 use year::Entry;
 
-// Number 15, for a valid listing.
+// Number 15, for a valid listing. Of the output, lent to be written later, the length alone goes along.
 fn check_output(listing: &Listing<'_>, capacity: usize) -> Result<(), Refusal>
     ensures { outcome result ≡ output_checked listing.now.words.now capacity }
 {
@@ -70,7 +70,8 @@ fn run_cell(listing: &Listing<'_>, i: usize, output: &mut [u64]) -> Entry
     e
 }
 
-// Every cell's years, on an output that begins with zeros: each cell's words, and the years' numbers.
+// Every cell's years, on an output that begins with zeros: each cell's words, and the years' numbers. A walk
+// as that of `closing::close_cells`.
 fn run_cells(listing: &Listing<'_>, book: &mut [u32], output: &mut [u64])
     requires { Ready listing.now.words.now book.old (length output.old) × (output.old ≡ ran_output listing.now.words.now output.old 0) }
     ensures new_book { book.new ≡ ran_cells listing.now.words.now book.old (cells listing.now.words.now) }

@@ -1,4 +1,4 @@
--- What a call that found its cell is given; proofs/AdmittedCell.antt makes it from the answers.
+-- What holds of a cell that a call found; proofs/AdmittedCell.antt makes it from the answers.
 use Rattle.std.specs.Prelude.{ℕ, ◌<◌, ◌≡◌, true, List}
 use Rattle.listing.specs.Layout.{head, cells, cell}
 use Rattle.book.specs.Current.{words_of, entry, admitted, CellInBook, AcceptedBook}

@@ -1,4 +1,4 @@
-// The ledger's six calls. None requires anything of its caller; each answers a number and a place where
+// The ledger's six calls. None requires anything of its caller; each answers a reason and a place where
 // it is refused, and then it has written nothing.
 #![tactic(auto)]
 
@@ -14,7 +14,7 @@ use listing::Listing;
 use words::{Reason, Refusal, need};
 
 // What is stated of a cell: mm entered, remaining, oxidised and burned to date, kg to date, its plan
-// year and its mark.
+// year, 0 where it has none, as C is told, and its mark.
 #[derive(Clone, Copy, Debug, PartialEq, Eq)]
 pub struct CellFigures {
     pub entered: u32,
@@ -67,7 +67,8 @@ fn check_mark(book: &OpenBook<'_>, cell: usize) -> Result<(), Refusal>
     requires { cell < cells book.now.listing.words.now }
     ensures { outcome result ≡ mark_checked book.now.words.now cell }
 {
-    need(!book.entry(cell).withdrawn, Reason::CellWithdrawn, 0)
+    let e = book.entry(cell);
+    need(!e.withdrawn, Reason::CellWithdrawn, 0)
 }
 
 // Numbers 1 to 6, 8, 10 and 11.

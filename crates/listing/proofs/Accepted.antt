@@ -1,5 +1,5 @@
 -- A listing that was accepted: what the check's answer says of its words. Assumes nothing.
-use mathlib.Core.Path.{◌≡◌, refl, sym, ap, ◌∙◌}
+use mathlib.Core.Path.{◌≡◌, refl, ap, ◌∙◌}
 use mathlib.Core.Bool.{true}
 use mathlib.Core.List.{List}
 use Prim.Native.Nat.{ℕ, zero, suc, ◌+◌, ◌-◌, ◌*◌, ◌≤◌, ◌<◌}
@@ -7,9 +7,7 @@ use native.Mathlib.Nat.{mul-le-mul, lt_of_not-le}
 use native.Mathlib.Omega.{arith}
 use lib.ListN.{length, get_or}
 use borrow.Author.Tests.{leb-true, eq-eqb, ne_eqb}
-use Rattle.std.specs.Prelude.{Result, Ok}
-use Rattle.words.specs.declared.Refusal.{Refusal}
-use Rattle.words.specs.Answers.{Answer, outcome}
+use Rattle.words.specs.Answers.{Answer}
 use Rattle.words.proofs.Steps.{row_within}
 use Rattle.words.proofs.Answers.{need_accepted, need_all_accepted}
 use Rattle.fields.specs.Words.{most_strata, most_horizon, year_terms, is_size_word, is_depth_word, is_area_word, is_above}
@@ -119,10 +117,6 @@ accepted l h =
       words_at_most = count_at_most l (horizon l) (offsets l).terms term h₈.0;
     }
 
--- the same where the call was accepted
-pub accepted_done : {A : Type 0} (l : List ℕ) (v : Result A Refusal) (x : A) → outcome v ≡ checked l → v ≡ Ok x → Accepted l
-accepted_done l v x e d = accepted l (ap (λ (a : Answer). a.done) (sym e ∙ ap outcome d))
-
 -- of all years
 pub terms_at_most : (l : List ℕ) → Accepted l → length l ≤ (offsets l).terms + most_term_words
 terms_at_most l a =
@@ -169,10 +163,6 @@ module _ (l : List ℕ) (h : Head) (s : Offsets) (e : h ≡ head l) (f : s ≡ o
   cell_by i p =
       let parts = a.parts in
       (rw offsets_by, omega arith)
-
-  -- the terms end with the listing
-  pub terms_by : (s.terms ≡ (offsets l).terms) × (s.terms ≤ length l) × (length l ≤ s.terms + most_term_words)
-  terms_by = rw offsets_by (refl, a.long, terms_at_most l a)
 
 -- ---- a listing as a value of the code, by its ghost fields
 

@@ -12,7 +12,7 @@ ghost use Rattle.std.proofs.Props.{props};
 ghost use Rattle.fields.proofs.Valid.{listed_prop};
 
 use fields::{Cell, Head, MOST_CELLS, MOST_HORIZON, MOST_STRATA, Row};
-use words::{KIND, Reason, Refusal, first_invalid, refuse};
+use words::{KIND, Reason, Refusal, first_invalid, need};
 
 // The words that every listing has.
 const LEAST_WORDS: usize = 2;
@@ -32,7 +32,7 @@ pub const MOST_WORDS: usize = TABLES_AT
     + YEAR_TERMS * MOST_HORIZON as usize;
 
 // A listing that is accepted, and the figures of its head, which are read once.
-#[derive(Clone, Copy)]
+#[derive(Clone, Copy, Debug, PartialEq, Eq)]
 pub struct Listing<'a> {
     pub words: &'a [u32],
     pub figures: Head,
@@ -48,7 +48,8 @@ pub struct Offsets {
     pub terms: usize,
 }
 
-// A cell's two words alternate: which it is, its place says.
+// A cell's two words alternate: which one it is, its place says. By a branch, as in the definition: of two
+// closures one would be chosen by the same branch. Strata and horizon are what the definition takes.
 #[tactic(auto, using(crate::proofs::Accepted::offset_depth, crate::proofs::Accepted::not_depth))]
 fn is_cell_word(w: u32, strata: u32, horizon: u32, offset: usize) -> bool
     ensures { result ≡ is_cell_word strata horizon offset w }
@@ -59,8 +60,9 @@ fn is_cell_word(w: u32, strata: u32, horizon: u32, offset: usize) -> bool
     fields::is_area_word(w)
 }
 
-// Whether every word of the tables is valid: without a branch for each word, since most listings are.
-// Places are those of the whole listing, here and below, as a refusal names them.
+// Whether every word of the tables is valid: without a branch for each word, since most listings are. By
+// the search alone a closing took 18 percent longer (docs/DECISIONS.md). Places are those of the whole
+// listing, here and below, as the definitions and a refusal name them.
 fn tables_valid(listing: &[u32], start: usize, end: usize) -> bool
     requires { (start ≤ end) × (end ≤ length listing.now) }
     ensures { result ≡ true → end ≡ first_invalid (table_word_valid listing.now) start end }
@@ -72,7 +74,8 @@ fn tables_valid(listing: &[u32], start: usize, end: usize) -> bool
     KIND.of(faults) == 0
 }
 
-// The first word of the tables that is invalid; where there is none, `end`.
+// The first word of the tables that is invalid; where there is none, `end`. By nested loops over strata and
+// ages, left by a label, the form that document 01 asks for here.
 fn first_invalid_table_word(
     listing: &[u32],
     strata: usize,
@@ -86,19 +89,21 @@ fn first_invalid_table_word(
     if tables_valid(listing, start, end) {
         return end;
     }
-    let mut at = start;
-    'strata: for _stratum in 0..strata {
-        for _age in 0..horizon {
+    let mut found = end;
+    'strata: for stratum in 0..strata {
+        for age in 0..horizon {
+            let at = start + stratum * horizon + age;
             if !fields::is_table_word(listing[at]) {
+                found = at;
                 break 'strata;
             }
-            at += 1;
         }
     }
-    at
+    found
 }
 
-// Whether every word of the cells is valid: without a branch for each, as above.
+// Whether every word of the cells is valid: without a branch for each, as above. Words that are not
+// accepted have no type yet, so that the head goes beside them, here and below.
 fn cells_valid(listing: &[u32], h: Head, start: usize) -> bool
     requires { start + cell_words * h.cells ≤ length listing.now }
     ensures { result ≡ true →
@@ -242,7 +247,8 @@ impl Listing<'_> {
         Row::from(self.words[self.row_at(stratum, age)])
     }
 
-    // The figures of cell `i`.
+    // The figures of cell `i`. A cell's number stays a `usize`, which C gives and number 10 tests: a type of
+    // its own would have to be tied to the listing wherever one is made.
     pub fn cell(&self, i: usize) -> Cell
         requires { i < cells self.now.words.now }
         ensures { result ≡ cell self.now.words.now i }
@@ -252,9 +258,8 @@ impl Listing<'_> {
     }
 }
 
-// Numbers 4 and 5, for the words after the head, whose parts begin at `s`. Words that are not accepted yet
-// have no type, so that the head goes beside them.
-#[tactic(auto, using(words::proofs::Answers::answers), unfolding(crate::specs::Check::words_checked))]
+// Numbers 4 and 5, for the words after the head, whose parts begin at `s`: a search that came to its end
+// has found nothing.
 fn check_words(listing: &[u32], h: Head, s: Offsets) -> Result<(), Refusal>
     requires { Contiguous h s × (s.terms ≤ length listing.now) }
     ensures { outcome result ≡ words_checked listing.now h s }
@@ -266,25 +271,16 @@ fn check_words(listing: &[u32], h: Head, s: Offsets) -> Result<(), Refusal>
         s.tables,
         s.cells,
     );
-    if table < s.cells {
-        return refuse(Reason::LaterWord, table);
-    }
+    need(s.cells <= table, Reason::LaterWord, table)?;
     let cell = first_invalid_cell_word(listing, h, s.cells, s.terms);
-    if cell < s.terms {
-        return refuse(Reason::LaterWord, cell);
-    }
+    need(s.terms <= cell, Reason::LaterWord, cell)?;
     if terms_valid(listing, h.horizon, s.terms) {
         return Ok(());
     }
     let term = first_invalid_term(listing, h.horizon, s.terms);
     let later = first_term_not_above(listing, s.terms);
-    if term < listing.len() {
-        return refuse(Reason::LaterWord, term);
-    }
-    if later < listing.len() {
-        return refuse(Reason::TermNotAbove, later);
-    }
-    Ok(())
+    need(listing.len() <= term, Reason::LaterWord, term)?;
+    need(listing.len() <= later, Reason::TermNotAbove, later)
 }
 
 // Number 3, and then the words.
@@ -292,26 +288,20 @@ fn check_later(listing: &[u32], h: Head, s: Offsets) -> Result<(), Refusal>
     requires { Contiguous h s }
     ensures { outcome result ≡ later_checked listing.now h s }
 {
-    if listing.len() < s.terms {
-        return refuse(Reason::ListingShort, listing.len());
-    }
+    let long_enough = s.terms <= listing.len();
+    need(long_enough, Reason::ListingShort, listing.len())?;
     check_words(listing, h, s)
 }
 
-// The answer for any words, numbers 1 to 5: the listing, or why it is refused.
+// The answer for any words, numbers 1 to 5: the listing, or why it is refused. `same_words` says whose
+// listing it is, here and where it is handed on, since the type holds any accepted words.
 pub fn check(listing: &[u32]) -> Result<Listing<'_>, Refusal>
     ensures value { outcome result ≡ checked listing.now }
     ensures same_words { IfOk result (λ l. l.words.now ≡ listing.now) }
 {
-    if listing.len() < LEAST_WORDS {
-        return refuse(Reason::TooFewWords, 0);
-    }
-    if !fields::is_size_word(listing[0]) {
-        return refuse(Reason::HeadWord, 0);
-    }
-    if !fields::is_figure_word(listing[1]) {
-        return refuse(Reason::HeadWord, 1);
-    }
+    need(LEAST_WORDS <= listing.len(), Reason::TooFewWords, 0)?;
+    need(fields::is_size_word(listing[0]), Reason::HeadWord, 0)?;
+    need(fields::is_figure_word(listing[1]), Reason::HeadWord, 1)?;
     let h = head(listing);
     check_later(listing, h, offsets_of(h))?;
     Ok(Listing {

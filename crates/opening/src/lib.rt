@@ -10,7 +10,7 @@ ghost use Rattle.opening.specs.Opening.{open_entry, open_book};
 use book::BOOK;
 use listing::Listing;
 
-// Writes the cells, with the plan years of the listing.
+// Writes the cells, with the plan years of the listing. A walk as that of `closing::close_cells`.
 fn open_cells(listing: &Listing<'_>, book: &mut [u32])
     requires { Fitted listing.now.words.now book.old }
     ensures { book.new ≡ filled current.entry book.old current.head (held_at (open_entry listing.now.words.now)) (cells listing.now.words.now) }

@@ -42,7 +42,8 @@ fn read(input: &mut impl Read, buffer: &mut [u8]) -> io::Result<usize> {
     Ok(done)
 }
 
-// The word refused, its number and its place. Only a listing is refused here, by 1 to 5.
+// The word refused, its number and its place. A function of its own for what it requires: only a listing
+// is refused here, by 1 to 5, so that no other refusal can be printed.
 fn print_refused(rt: &impl Print, why: Refusal) -> io::Result<()>
     requires { (too_few_words ≤ number_of why.reason) × (number_of why.reason ≤ term_not_above) }
 {
@@ -70,7 +71,8 @@ fn print_year(rt: &impl Print, year: u32, lines: &[u32], tonnes: u32) -> io::Res
 }
 
 // Closes the year after the current one and issues: the tonnes. Neither call is refused, by the
-// contract, so that 0 is never answered for a refusal.
+// contract, so that 0 is never answered for a refusal. The ledger's calls take slices, as C gives them, so
+// that listing and book go beside each other here and below, with what is known of them in clauses.
 fn run_year(listing: &[u32], book: &mut [u32], lines: &mut [u32]) -> u32
     requires { Closable listing.now book.old (length lines.old) }
     ensures { Ran listing.now book.old lines.old book.new lines.new result }
@@ -116,7 +118,7 @@ fn remaining(listing: &[u32], book: &[u32], i: usize) -> u32
     figures.remaining
 }
 
-// The mm that remain, over all cells.
+// The mm that remain, over all cells: a loop of its own, as the balance's sum of kg.
 #[tactic(auto, using(crate::proofs::Years::opened_long))]
 fn remaining_total(listing: &[u32], book: &[u32]) -> u64
     requires { (admitted listing.now book.now).done ≡ true }
@@ -153,7 +155,7 @@ fn run_opened(
     print_remaining(rt, listing, &book[..])
 }
 
-// The table of a listing, or its refusal.
+// The table of a listing, or its refusal: by `let .. else`, the form that document 01 asks for here.
 fn run(rt: &impl Print, listing: &[u32]) -> io::Result<()> {
     let mut book = [0u32; MOST_BOOK_WORDS];
     let opened = ledger::open(listing, &mut book);
@@ -164,7 +166,7 @@ fn run(rt: &impl Print, listing: &[u32]) -> io::Result<()> {
     run_opened(rt, listing, &mut book, &mut lines)
 }
 
-// Whether so many bytes are more than the longest listing has.
+// Whether so many bytes are more than the longest listing has. It asks for their count alone.
 fn too_long(count: usize) -> bool
     ensures { result ≡ ltb most_bytes count }
 {

@@ -1,9 +1,8 @@
 -- Millimetres and the lowest level's more, as natural numbers: what a depth is by them. Assumes nothing.
 use mathlib.Core.Path.{◌≡◌, refl, sym, ap, ap₂, ◌∙◌}
 use Prim.Native.Nat.{ℕ, suc, ◌+◌, ◌-◌, ◌*◌, ◌/◌, ◌≤◌, ◌<◌}
-use native.Mathlib.Nat.{lt_of_not-le}
 use native.Mathlib.Omega.{arith}
-use mathlib.Core.Bool.{true, false, false≢true}
+use mathlib.Core.Bool.{Bool, ◌&&◌, true, false, false≢true}
 use lib.Dec.{leb}
 use lib.IntN.{ℤ, pos, negsuc, neg_ℤ, nat_abs, ◌+ℤ◌, ◌-ℤ◌, ◌*ℤ◌, neg_ℤ-+ℤ, +ℤ_assoc, +ℤ_comm, +ℤ-neg_ℤ_cancel}
 use lib.Signed.{le_z, shr_z}
@@ -11,9 +10,9 @@ use lib.Ieee.{Float}
 use borrow.Author.Tests.{le-leb, lt-leb, lt-ltb}
 use Rattle.words.specs.Bits.{at_least_0}
 use Rattle.words.specs.Refusals.{out_of_range}
-use Rattle.words.specs.Answers.{Answer, accepted, refused, need}
-use Rattle.words.proofs.Signed.{at_least_0_less, diff_is, diff_same}
-use Rattle.words.proofs.Answers.{need_failed, need_next, answers}
+use Rattle.words.specs.Answers.{Answer, accepted, need}
+use Rattle.words.proofs.Signed.{by_less, at_least_0_less, diff_is, diff_same}
+use Rattle.words.proofs.Answers.{answers}
 use Rattle.reading.specs.Metres.{numerator, denominator, in_core, in_level, mm, lowest_mm}
 use Rattle.reading.specs.Depth.{most_depth, in_depth, levels}
 use Rattle.reading.proofs.Order.{core_inside, core_finite, level_finite, core_level}
@@ -55,31 +54,17 @@ module _ (n : ℕ) (u : ℤ) (s : ℕ) (p : pos s ≡ u +ℤ pos n) where
     unfolding in_depth
     bounded h = ap in_depth (difference ∙ diff_is s b (s - b) (omega arith)) ∙ rw (le-leb 0 (s - b) (omega arith))
 
-    pair_deep : b ≤ s → most_depth < s - b → in_depth (u -ℤ v) ≡ false
-    pair_deep h k = bounded h ∙ lt-leb (s - b) most_depth k
-
-    pair_depth : b ≤ s → s - b ≤ most_depth → in_depth (u -ℤ v) ≡ true
-    pair_depth h k = bounded h ∙ le-leb (s - b) most_depth k
+    -- the test of the code, on natural numbers
+    pair_depth : in_depth (u -ℤ v) ≡ (leb b s && leb (s - b) most_depth)
+    pair_depth = by_less s b (λ lt. base_above lt ∙ rw (lt-leb b s lt) refl) (λ le. bounded le ∙ rw (le-leb b s le) refl)
 
 -- ---- what a pair of levels answers, by the millimetres of both above the lowest
 module _ (x y : Float) (s b : ℕ) (l : in_level x ≡ true) (k : in_level y ≡ true) (p : pos s ≡ mm x +ℤ pos lowest_mm) (q : pos b ≡ mm y +ℤ pos lowest_mm) where
-  tested : (answer : Answer) → answer ≡ need (in_depth (mm x -ℤ mm y)) out_of_range 2 (accepted (at_least_0 (mm x -ℤ mm y))) → answer ≡ levels x y
+  pub pair_by : (answer : Answer) → answer ≡ need (leb b s && leb (s - b) most_depth) out_of_range 2 (accepted (s - b)) → answer ≡ levels x y
   unfolding levels need
-  tested answer e = rw (level_finite x l, level_finite y k, l, k) e
-
-  pub pair_accepted : b ≤ s → s - b ≤ most_depth → accepted (s - b) ≡ levels x y
-  pair_accepted h g = tested _ (need_next _ _ _ _ _ (pair_depth lowest_mm (mm x) s p (mm y) b q h g) (pair_value lowest_mm (mm x) s p (mm y) b q))
-
-  pair_refused : in_depth (mm x -ℤ mm y) ≡ false → refused out_of_range 2 ≡ levels x y
-  pair_refused h = tested _ (need_failed _ _ _ _ _ h refl)
-
-  pub pair_below : (b ≤ s → ⊥) → refused out_of_range 2 ≡ levels x y
-  pair_below h = pair_refused (base_above lowest_mm (mm x) s p (mm y) b q (lt_of_not-le h))
-
-  pub pair_too_deep : b ≤ s → most_depth < s - b → refused out_of_range 2 ≡ levels x y
-  pair_too_deep h g = pair_refused (pair_deep lowest_mm (mm x) s p (mm y) b q h g)
+  pair_by answer e =
+      rw (level_finite x l, level_finite y k, l, k)
+      (e ∙ ap₂ (λ (c : Bool) (a : Answer). need c out_of_range 2 a) (sym (pair_depth lowest_mm (mm x) s p (mm y) b q)) (pair_value lowest_mm (mm x) s p (mm y) b q))
 
 -- what the answers of this crate are found from
 pub ruleset depths = (answers, core_finite, level_finite, core_level, core_enough, core_value)
-
-pub ruleset pairs = (pair_accepted, pair_below, pair_too_deep)

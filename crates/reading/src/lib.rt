@@ -7,7 +7,7 @@ ghost use Rattle.reading.specs.Metres.{is_finite, numerator, in_range, in_core, 
 ghost use Rattle.reading.specs.Depth.{core, levels, depth};
 ghost use Rattle.reading.specs.declared.Reading.TheVariants.{Missing};
 
-use words::{Field, Reason, Refusal, refuse};
+use words::{Field, Reason, Refusal, need, refuse};
 
 #[derive(Clone, Copy, Debug, PartialEq)]
 pub enum Reading {
@@ -61,14 +61,11 @@ pub fn core(x: f32) -> Result<u32, Refusal>
     if in_core(x) {
         return Ok(mm_above_lowest(x) - LOWEST_MM);
     }
-    if !is_finite(x) {
-        return refuse(Reason::NotFinite, 0);
-    }
+    need(is_finite(x), Reason::NotFinite, 0)?;
     refuse(Reason::OutOfRange, 0)
 }
 
 // The depth between a pair of levels.
-#[tactic(auto, using(crate::proofs::Lowest::pairs))]
 pub fn levels(surface: f32, base: f32) -> Result<u32, Refusal>
     ensures { amount result ≡ levels surface base }
 {
@@ -77,9 +74,8 @@ pub fn levels(surface: f32, base: f32) -> Result<u32, Refusal>
     }
     let s = mm_above_lowest(surface);
     let b = mm_above_lowest(base);
-    if s < b || MOST_DEPTH < s - b {
-        return refuse(Reason::OutOfRange, PAIR);
-    }
+    let in_depth = (b <= s) & (s.saturating_sub(b) <= MOST_DEPTH);
+    need(in_depth, Reason::OutOfRange, PAIR)?;
     Ok(s - b)
 }
 
@@ -90,27 +86,21 @@ fn refuse_pair(surface: f32, base: f32) -> Result<u32, Refusal>
     requires { in_level surface ≡ true → in_level base ≡ false }
     ensures { amount result ≡ levels surface base }
 {
-    if !is_finite(surface) {
-        return refuse(Reason::NotFinite, 0);
-    }
-    if !is_finite(base) {
-        return refuse(Reason::NotFinite, 1);
-    }
-    if !in_level(surface) {
-        return refuse(Reason::OutOfRange, 0);
-    }
+    need(is_finite(surface), Reason::NotFinite, 0)?;
+    need(is_finite(base), Reason::NotFinite, 1)?;
+    need(in_level(surface), Reason::OutOfRange, 0)?;
     refuse(Reason::OutOfRange, 1)
 }
 
-// Neither a NaN nor an infinity: strictly between the two infinities.
+// Neither a NaN nor an infinity.
 fn is_finite(x: f32) -> bool
     ensures { result ≡ is_finite x }
 {
-    x < f32::INFINITY && f32::NEG_INFINITY < x
+    x.is_finite()
 }
 
 // Whether x lies in low to high, whole numbers of metres, ends included; -0 is 0, and no NaN lies
-// there.
+// there. A range's `contains` would say no more.
 #[tactic(auto, using(crate::proofs::Order::range_is))]
 fn in_range(x: f32, low: f32, high: f32) -> bool
     requires { Ends low high }

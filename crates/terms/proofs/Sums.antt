@@ -96,7 +96,10 @@ total_first f g zero (w ∷ ws) p q = ap₂ ◌+ℤ◌ (q 0 (omega arith) (omega
 total_first f g (suc n) (w ∷ ws) p q =
     ap₂ ◌+ℤ◌ (p 0 (omega arith) (omega arith)) (total_first f g n ws (λ j h k. p (suc j) (omega arith) (omega arith)) (λ j h k. q (suc j) (omega arith) (omega arith)))
 
-module _ (l : List ℕ) (year start : ℕ) where
+module _ (l : List ℕ) (year : ℕ) where
+  abbrev start : ℕ
+  start = (offsets l).terms
+
   pub split_none : start ≤ length l → Split l year start start (length l)
   split_none h = record { ordered = (omega arith, h, omega arith); before = λ k p q. absurd (omega arith); after = λ k p q. absurd (omega arith) }
 
@@ -108,7 +111,7 @@ module _ (l : List ℕ) (year start : ℕ) where
         rw e at s
 
     -- by the year of a word m between them; t is what `YearlyTerm::from` gave of it
-    module _ (a : Accepted l) (e : start ≡ (offsets l).terms) (m : ℕ) (p : low ≤ m) (q : m < high) (t : YearlyTerm) (r : t ≡ yearly_term_of (get_or l m 0)) where
+    module _ (a : Accepted l) (m : ℕ) (p : low ≤ m) (q : m < high) (t : YearlyTerm) (r : t ≡ yearly_term_of (get_or l m 0)) where
       pub split_above : t.year ≤ year → Split l year start (m + 1) high
       unfolding yearly_term_of
       split_above h =
@@ -140,23 +143,21 @@ module _ (l : List ℕ) (year start : ℕ) where
         ∙ ap f (sym (get_or-drop start l j 0)))
         (λ j h k. q (get_or l (start + j) 0) (s.after (start + j) (omega arith) (omega arith)) ∙ ap f (sym (get_or-drop start l j 0)))
 
-module _ (l : List ℕ) (year : ℕ) (a : Accepted l) {start end : ℕ} (e : start ≡ (offsets l).terms) (s : Split l year start end end) where
-  pub first_all : total tonnes_of (take (end - start) (drop start l)) ≡ terms_to_date l year most_term
-  first_all =
-      first_terms l year start (counted year most_term) tonnes_of s
-      (λ k p q h. sym (counted_all year most_term (get_or l k 0) h (term_most (a.term_valid k (omega arith) q))))
-      (λ w h. sym (counted_later year most_term w h))
-      ∙ ap (λ (k : ℕ). total (counted year most_term) (drop k l)) e
+  module _ (a : Accepted l) {end : ℕ} (s : Split l year start end end) where
+    pub first_all : total tonnes_of (take (end - start) (drop start l)) ≡ terms_to_date l year most_term
+    first_all =
+        first_terms (counted year most_term) tonnes_of s
+        (λ k p q h. sym (counted_all year most_term (get_or l k 0) h (term_most (a.term_valid k (omega arith) q))))
+        (λ w h. sym (counted_later year most_term w h))
 
-  pub first_up_to : (last : ℕ) → total (up_to last) (take (end - start) (drop start l)) ≡ terms_to_date l year last
-  first_up_to last =
-      first_terms l year start (counted year last) (up_to last) s
-      (λ k p q h. sym (counted_to_date year last (get_or l k 0) h))
-      (λ w h. sym (counted_later year last w h))
-      ∙ ap (λ (k : ℕ). total (counted year last) (drop k l)) e
+    pub first_up_to : (last : ℕ) → total (up_to last) (take (end - start) (drop start l)) ≡ terms_to_date l year last
+    first_up_to last =
+        first_terms (counted year last) (up_to last) s
+        (λ k p q h. sym (counted_to_date year last (get_or l k 0) h))
+        (λ w h. sym (counted_later year last w h))
 
-  pub first_most : length (take (end - start) (drop start l)) ≤ most_term_words
-  first_most = omega (arith, length-take (end - start) (drop start l), length-drop start l, terms_at_most l a)
+    pub first_most : length (take (end - start) (drop start l)) ≤ most_term_words
+    first_most = omega (arith, length-take (end - start) (drop start l), length-drop start l, terms_at_most l a)
 
 -- ---- the sum of the first words, and of one more
 total_next : (f : ℕ → ℤ) (at : ℕ) (ws : List ℕ) → at < length ws → total f (take (suc at) ws) ≡ total f (take at ws) +ℤ f (get_or ws at 0)

@@ -10,7 +10,7 @@ ghost use Rattle.terms.specs.Split.{up_to, Split};
 use fields::YearlyTerm;
 use listing::Listing;
 
-// The last term that the buffer percentage is taken of.
+// The last term that the buffer percentage is taken of, by its number.
 const LAST_BUFFERED: u32 = 5;
 
 // The terms to date: all of them, for N, and those up to 5, for S. Peat, term 2, is not among them.
@@ -20,13 +20,12 @@ pub struct TermSums {
     pub buffered: i64,
 }
 
-// Where the terms of the years 1 to `year` end: terms rise by year, so that these come first.
-// `partition_point` of the library takes longer: it has a jump more for a word that it tests.
-fn end_of_terms_to_date(listing: &Listing<'_>, start: usize, year: u32) -> usize
-    requires { start ≡ (offsets listing.now.words.now).terms }
-    ensures { Split listing.now.words.now year start result result }
+// Where the terms of the years 1 to `year` end: terms rise by year, so that these come first. By halving:
+// the library's `partition_point` takes a third longer, having a jump more for each word that it tests.
+fn end_of_terms_to_date(listing: &Listing<'_>, year: u32) -> usize
+    ensures { Split listing.now.words.now year (offsets listing.now.words.now).terms result result }
 {
-    let mut low = start;
+    let mut low = listing.offsets().terms;
     let mut high = listing.words.len();
     while low < high {
         let middle = low + (high - low) / 2;
@@ -75,6 +74,6 @@ pub fn terms_to_date(listing: &Listing<'_>, year: u32) -> TermSums
     ensures { (result.all ≡ terms_to_date listing.now.words.now year 8) × (result.buffered ≡ terms_to_date listing.now.words.now year 5) }
 {
     let start = listing.offsets().terms;
-    let end = end_of_terms_to_date(listing, start, year);
+    let end = end_of_terms_to_date(listing, year);
     term_sums(&listing.words[start..end])
 }

@@ -15,7 +15,7 @@ use Rattle.words.specs.Answers.{Answer, accepted, refused, answer_of, need, need
 use Rattle.words.specs.Refusals.{number_of}
 use Rattle.words.specs.declared.Refusal.{Refusal}
 use Rattle.words.proofs.Meaning.{valid_before, first_only, none_either}
-use Rattle.words.proofs.Signed.{by_test}
+use Rattle.words.proofs.Signed.{by_test, by_less}
 
 -- ---- forwards: v is what a function returns, as an answer
 
@@ -73,6 +73,20 @@ pub need_passes : (ok : Bool) (n k : ℕ) (next v : Answer) (x : ℕ) → accept
 unfolding need
 need_passes true n k next v x e q = q
 need_passes false n k next v x e q = absurd (false≢true (ap (λ (a : Answer). a.done) (sym e)))
+
+-- where it was passed, it held
+pub need_held : (ok : Bool) (n k x : ℕ) → accepted x ≡ need ok n k (accepted 0) → ok ≡ true
+unfolding need
+need_held true n k x e = refl
+need_held false n k x e = absurd (false≢true (ap (λ (a : Answer). a.done) (sym e)))
+
+-- a search, where the program gives `need` the test that its place is not before the end
+need_found : (n place end : ℕ) (next : Answer) → need (leb end place) n place next ≡ need_none n place end next
+unfolding need need_none
+need_found n place end next = by_less place end (λ lt. rw (lt-ltb place end lt, lt-leb end place lt) refl) (λ le. rw (le-ltb place end le, le-leb end place le) refl)
+
+pub found_by : (n place p end : ℕ) (next v : Answer) → place ≡ p → v ≡ need (leb end place) n place next → v ≡ need_none n p end next
+found_by n place p end next v e q = q ∙ need_found n place end next ∙ ap (λ (x : ℕ). need_none n x end next) e
 
 -- what a return's answer is found from
 pub ruleset answers = (refused_by, need_failed, need_next, flag_false, flag_true, found, found_none, lt-leb, le-leb, lt-ltb, le-ltb)

@@ -8,9 +8,6 @@ use lib.Pow.{shl_exact, high, pow_pos, pow-add}
 use lib.Pow.{field as field-pow}
 use lib.Bits.{bit_and, bit_or, and_mask, or_shifted}
 use Rattle.words.specs.Bits.{field, bits, word_of}
-use Rattle.words.specs.Kinds.{kind_of}
-use Rattle.words.specs.declared.Kind.{Kind}
-use Rattle.words.specs.declared.Kind.TheVariants as kinds
 
 -- 1 << n
 pub one_shl : (n : ℕ) → n < 32 → (1 * 2 ^ n) % 2 ^ 32 ≡ 2 ^ n
@@ -59,20 +56,3 @@ word_kind kind payload h k = field_high kind payload 28 4 h k
 
 pub word_bits : (kind payload high low : ℕ) → low ≤ high → high < 28 → bits (word_of kind payload) high low ≡ bits payload high low
 word_bits kind payload high low h k = field_low kind payload 28 low (high + 1 - low) (omega arith)
-
--- a kind has 4 bits
-pub kind_below : (kind : Kind) → kind_of kind < 16
-kind_below kinds.Size = omega arith
-kind_below kinds.Figure = omega arith
-kind_below kinds.Table = omega arith
-kind_below kinds.Depth = omega arith
-kind_below kinds.Area = omega arith
-kind_below kinds.Term = omega arith
-kind_below kinds.Year = omega arith
-kind_below kinds.Issued = omega arith
-kind_below kinds.Plan = omega arith
-kind_below kinds.Oxidised = omega arith
-kind_below kinds.Burned = omega arith
-kind_below kinds.OxidisedLine = omega arith
-kind_below kinds.BurnedLine = omega arith
-kind_below kinds.KgLine = omega arith

@@ -1,17 +1,17 @@
 -- Laws of ℤ and of the machine's signed numbers, so that what is left is for `omega`: `nat_abs z` bounds z on both sides by one
 -- natural number, and `at_least_0` makes what is subtracted into the difference of natural numbers. Assumes nothing.
 use mathlib.Core.Path.{◌≡◌, refl, sym, ap, ap₂, ◌∙◌}
-use mathlib.Core.Bool.{Bool, true, false, cond, true≢false}
+use mathlib.Core.Bool.{Bool, true, false, cond}
 use Prim.Native.Nat.{ℕ, zero, suc, ◌+◌, ◌-◌, ◌*◌, ◌^◌, ◌≤◌, ◌<◌}
 use native.Mathlib.Nat.{one-mul}
 use native.Mathlib.Omega.{arith}
-use lib.Dec.{T, ltb, eqb}
-use lib.IntN.{ℤ, pos, negsuc, neg_ℤ, sub_ℕ, nat_abs, ◌+ℤ◌, ◌-ℤ◌, +ℤ-neg_ℤ_cancel}
-use lib.Signed.{mag, lt_z, non_neg}
+use lib.Dec.{ltb, eqb}
+use lib.IntN.{ℤ, pos, negsuc, neg_ℤ, sub_ℕ, nat_abs, ◌+ℤ◌, ◌-ℤ◌}
+use lib.Signed.{mag}
 use lib.Pow.{pow-add, pow_mono, pow_pos}
 use lib.Bits.{bit_xor, xor_comm, xor_self, xor_zero_r, xor_shifted, xor_block}
 use mir.Syntax.{Width, w32}
-use mir.Val.{Fits, SFits, bits, hbits, to_z, of_z}
+use mir.Val.{SFits, hbits, to_z, of_z}
 use mir.Facts.{to_z-of_z, to_z_pos}
 use borrow.Author.Tests.{ltb-true, ltb-false, lt-ltb, le-ltb, eqb-true, eqb-false}
 use Rattle.words.specs.Bits.{twos_complement, at_least_0}
@@ -57,9 +57,6 @@ size_mag (negsuc n) = omega arith
 
 pub sfits_size : {w : Width} {z : ℤ} → nat_abs z < 2 ^ hbits w → SFits w z
 sfits_size {w} {z} h = record { sfits = omega (arith, size_mag z) }
-
-pub size_part : (x y : ℤ) → nat_abs x ≤ nat_abs (x +ℤ y) + nat_abs y
-size_part x y = omega (arith, ap nat_abs (+ℤ-neg_ℤ_cancel x y), size_minus (x +ℤ y) y)
 
 -- ---- what a signed operation asks, and what is read back from its result. A local holds bits: x' is what is read back from them, `to_z w n`, and x the number that this is
 -- the result of a call, where it is z
@@ -110,29 +107,6 @@ at_least_0_add (pos a) (pos b) = omega arith
 at_least_0_add (pos a) (negsuc b) = omega (arith, at_least_0_sub a (suc b))
 at_least_0_add (negsuc a) (pos b) = omega (arith, at_least_0_sub b (suc a))
 at_least_0_add (negsuc a) (negsuc b) = omega arith
-
--- ---- what a signed test of x against a natural number n gives: a bound on at_least_0 x, and where x is not below n that x is a natural number
-lt_true : (z : ℤ) (n : ℕ) → lt_z z (pos n) ≡ true → at_least_0 z ≤ n - 1
-unfolding at_least_0
-lt_true (pos m) n e = omega (arith, ltb-true m n e)
-lt_true (negsuc m) n e = omega arith
-
-lt_false : (z : ℤ) (n : ℕ) → lt_z z (pos n) ≡ false → (n ≤ at_least_0 z) × (z ≡ pos (at_least_0 z))
-unfolding at_least_0
-lt_false (pos m) n e = (ltb-false m n e, refl)
-lt_false (negsuc m) n e = absurd (true≢false e)
-
--- the same of what is read back from the bits of x and n; n may be a literal, with `refl` for q
-module _ {x' y' : ℤ} (x : ℤ) (n : ℕ) (p : x' ≡ x) (q : y' ≡ pos n) where
-  pub x<n : lt_z x' y' ≡ true → at_least_0 x ≤ n - 1
-  x<n e = lt_true x n (sym (ap₂ lt_z p q) ∙ e)
-
-  pub ¬x<n : lt_z x' y' ≡ false → (n ≤ at_least_0 x) × (x ≡ pos (at_least_0 x))
-  ¬x<n e = lt_false x n (sym (ap₂ lt_z p q) ∙ e)
-
--- a cast to an unsigned type: `nat_abs x'` is a by `ap nat_abs p`
-pub unsigned_fits : (w : Width) {x' : ℤ} (a : ℕ) → x' ≡ pos a → a < 2 ^ bits w → (T (non_neg x')) × Fits w (nat_abs x')
-unsigned_fits w a p h = rw p (tt, record { fits = h })
 
 -- ---- differences of natural numbers: an equation of them is one for `omega`
 diff_sub : (a b : ℕ) → pos a -ℤ pos b ≡ sub_ℕ a b

@@ -8,7 +8,7 @@ field w position width = w / 2 ^ position % 2 ^ width
 abbrev pub bits : ℕ → ℕ → ℕ → ℕ
 bits w high low = field w low (high + 1 - low)
 
--- what `bits` requires: 1 to 31 of a word's 32 bits
+-- what a `Field` has: 1 to 31 of a word's 32 bits
 pub record BitRange (high low : ℕ) : Type 0 where
   pub ordered : low ≤ high
   pub inside : high < 32

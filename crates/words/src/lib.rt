@@ -97,7 +97,7 @@ pub const KIND: Field = Field { high: 31, low: 28 };
 pub const PAYLOAD: Field = Field { high: 27, low: 0 };
 
 impl Reason {
-    // Its number in the table.
+    // Its number in the table. By a method, here and below: `u32::from(reason)` would not say which number.
     pub fn number(self) -> u32
         ensures { result ≡ number_of self }
     {
@@ -135,7 +135,7 @@ impl Field {
         (x ^ half) as i32 - half as i32
     }
 
-    // Whether these bits of `w` are a number from `least` to `most`.
+    // Whether these bits of `w` are a number from `least` to `most`: by `&`, with no branch between the two.
     pub fn is_within(self, w: u32, least: u32, most: u32) -> bool
         ensures { result ≡ within least most (bits w self.high self.low) }
     {
@@ -156,7 +156,7 @@ impl Kind {
     pub fn is_of(self, w: u32) -> bool
         ensures { result ≡ is_kind (kind_of self) w }
     {
-        KIND.of(w) == self.number()
+        is_kind(w, self.number())
     }
 
     // The word of this kind whose bits 27 to 0 are `payload`.
@@ -164,11 +164,26 @@ impl Kind {
         requires { payload < 2 ^ 28 }
         ensures { result ≡ word_of (kind_of self) payload }
     {
-        (self.number() << 28) | payload
+        word(self.number(), payload)
     }
 }
 
-// The refusal unless a test holds.
+// Whether `w` is of a kind by its number, of those too that no rule names.
+pub fn is_kind(w: u32, kind: u32) -> bool
+    ensures { result ≡ is_kind kind w }
+{
+    KIND.of(w) == kind
+}
+
+// The word of a kind by its number, whose bits 27 to 0 are `payload`.
+pub fn word(kind: u32, payload: u32) -> u32
+    requires { (kind < 16) × (payload < 2 ^ 28) }
+    ensures { result ≡ word_of kind payload }
+{
+    (kind << 28) | payload
+}
+
+// The refusal unless a test holds. The tests of a call are calls of this, one after the other by `?`.
 #[tactic(auto, using(crate::proofs::Answers::need_next, crate::proofs::Answers::need_failed))]
 pub fn need(holds: bool, reason: Reason, place: usize) -> Result<(), Refusal>
     ensures { outcome result ≡ need holds (number_of reason) place (accepted 0) }
@@ -179,7 +194,9 @@ pub fn need(holds: bool, reason: Reason, place: usize) -> Result<(), Refusal>
     refuse(reason, place)
 }
 
-// The first place from `from` up to but not `to` that is invalid; where all are valid, `to`.
+// The first place that is invalid, from `from` up to, but without, `to`; where all are valid, `to`. A place
+// and not an `Option`, here and in every search, as in the definition: whoever refuses asks whether the place
+// is before the end. Places are those of a whole listing or book, so that no slice is cut.
 pub fn first_invalid<F: Fn(usize) -> bool>(from: usize, to: usize, is_valid: F) -> usize
     requires ordered { from ≤ to }
     requires callable { (k : ℕ) → from ≤ k → k < to → F.pre is_valid k }

@@ -8,6 +8,7 @@ use reading::Reading;
 use terms::TermSums;
 use words::{PAYLOAD, Refusal};
 
+// Number 0 is printed where the call is accepted, as C is answered.
 fn line(rt: &impl Print, name: &str, number: u32, place: usize, value: u64) {
     let _ = println!(rt; "{name}: {number} {place} {value}");
 }
@@ -32,6 +33,11 @@ fn print_outcome(rt: &impl Print, name: &str, answer: Result<(), Refusal>) {
     print_answer(rt, name, answer, |()| 0);
 }
 
+// The answer of a call whose value is an amount.
+fn print_amount(rt: &impl Print, name: &str, answer: Result<u32, Refusal>) {
+    print_answer(rt, name, answer, u64::from);
+}
+
 fn print_check(rt: &impl Print, name: &str, listing: &[u32]) {
     print_answer(rt, name, listing::check(listing), |_| 0);
 }
@@ -47,7 +53,7 @@ fn print_lines(rt: &impl Print, name: &str, lines: &[u32], i: usize) {
 }
 
 fn print_reading(rt: &impl Print, name: &str, reading: Reading) {
-    print_answer(rt, name, reading::depth(reading), u64::from);
+    print_amount(rt, name, reading::depth(reading));
 }
 
 // The terms of the years 1 to `year` of a listing.
@@ -144,63 +150,58 @@ fn discounts(rt: &impl Print) {
     let width = [150u32];
     let more = [3000u32];
     let less = [2000u32];
-    print_answer(
+    print_amount(
         rt,
         "Q 22,500, D 1000",
         discount::discount(&width, &none, &more, &less),
-        u64::from,
     );
-    print_answer(
+    print_amount(
         rt,
         "Q 22,501, D 1000",
         discount::discount(&width, &one, &less, &more),
-        u64::from,
     );
     let first = [120u32, 0];
     let second = [0u32, 160];
     let halves = [1500u32, 1500];
     let thirds = [1000u32, 1000];
-    print_answer(
+    print_amount(
         rt,
         "Q 40,000, D 1000",
         discount::discount(&first, &second, &halves, &thirds),
-        u64::from,
     );
-    print_answer(
+    print_amount(
         rt,
         "no distance",
         discount::discount(&width, &one, &more, &more),
-        u64::from,
     );
-    print_answer(
+    print_amount(
         rt,
         "unequal lists",
         discount::discount(&width, &second, &more, &less),
-        u64::from,
     );
     let large = [20_001u32];
-    print_answer(
+    print_amount(
         rt,
         "20,001 in list 2",
         discount::discount(&width, &one, &large, &large),
-        u64::from,
     );
 }
 
-// What is refused of a book that was not opened, and of buffers that are too short.
+// What is refused of a book that was not opened, and of buffers that are too short. The calls take a
+// listing, a book and lines as slices, and so does each function here.
 fn unopened(rt: &impl Print, l: &[u32], b: &mut [u32], x: &mut [u32]) {
     print_outcome(rt, "close of a book of zeros", ledger::close(l, b, x));
     print_outcome(rt, "no book", ledger::open(l, &mut []));
     print_outcome(rt, "open", ledger::open(l, b));
     print_outcome(rt, "no lines", ledger::close(l, b, &mut []));
-    print_answer(rt, "issue in year 0", ledger::issue(l, b), u64::from);
+    print_amount(rt, "issue in year 0", ledger::issue(l, b));
 }
 
 // A closing and an issue.
 fn year(rt: &impl Print, l: &[u32], b: &mut [u32], x: &mut [u32], i: usize) {
     print_outcome(rt, "close", ledger::close(l, b, &mut x[..]));
     print_lines(rt, "its lines", &x[..], i);
-    print_answer(rt, "issue", ledger::issue(l, b), u64::from);
+    print_amount(rt, "issue", ledger::issue(l, b));
 }
 
 // What is refused once the horizon is reached and the cell is converted.
@@ -234,7 +235,7 @@ fn appended(rt: &impl Print, l: &[u32], b: &mut [u32], x: &mut [u32]) {
     year(rt, l, b, x, 0);
 }
 
-// The worked listing: open, and two years, each with its issue.
+// The worked listing: open, and two years, each with its issue. The program keeps to fixed memory.
 fn worked(rt: &impl Print) {
     let l = [
         0x1001_0102u32,

@@ -18,6 +18,7 @@ use Rattle.year.specs.Year.{no_loss, most_line, most_emission, most_loss, after_
 use Rattle.year.specs.Limits.{WithinLimits, SameFigures}
 use Rattle.year.specs.declared.Entry.{Entry}
 use Rattle.year.specs.declared.LostMm.{LostMm}
+use Rattle.year.specs.declared.Loss.{Loss}
 
 -- ---- the products of an emission
 
@@ -103,6 +104,12 @@ module _ (h : Head) (c : Cell) (r : Row) (e : Entry) where
   -- no more is lost than was entered, after the year too
   pub lost_within : e.oxidised + e.burned ≤ c.entered → (e.oxidised + (mm_of h c r e).oxidised) + (e.burned + (mm_of h c r e).burned) ≤ c.entered
   lost_within p = let m = mm_least in omega arith
+
+  -- what is lost in all, by its three figures; the kg of a year are the difference of two emissions
+  pub loss_by : (m : LostMm) (before then : ℕ) → m ≡ mm_of h c r e → before ≡ kg_of h c e → then ≡ emission h c (e.oxidised + m.oxidised) (e.burned + m.burned) →
+      ◌≡◌ {A = Loss} (record { oxidised = m.oxidised; burned = m.burned; kg = then - before }) (loss_of h c r e)
+  unfolding loss_of
+  loss_by m before then p u v = rw (v, u, p)
 
 -- ---- the most that can be lost
 module _ (h : Head) (c : Cell) where

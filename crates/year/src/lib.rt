@@ -11,8 +11,9 @@ use fields::{Cell, Head, Row};
 // `h` and `c` are two parameters throughout: the head is the listing's, read once for all cells, and a pair
 // of both, with `WithinLimits` as its fact, would have to be tied to the listing again wherever it is made.
 
-// What the book holds of a cell: its mark, its plan year, and the mm lost to date.
-#[derive(Debug, Clone, Copy, PartialEq, Eq)]
+// What the book holds of a cell: its mark, its plan year, and the mm lost to date. A plan year of 0 is
+// none, as its word has it, and as C gives it and is told.
+#[derive(Debug, Clone, Copy, PartialEq, Eq, Default)]
 pub struct Entry {
     pub withdrawn: bool,
     pub plan: u32,
@@ -20,7 +21,7 @@ pub struct Entry {
     pub burned: u32,
 }
 
-// The mm that a cell loses in a year.
+// The mm that a cell loses in a year, before its kg are worked out.
 #[derive(Debug, Clone, Copy, PartialEq, Eq)]
 pub struct LostMm {
     pub oxidised: u32,
@@ -40,10 +41,8 @@ pub fn opened(plan: u32) -> Entry
     ensures { result ≡ opened plan }
 {
     Entry {
-        withdrawn: false,
         plan,
-        oxidised: 0,
-        burned: 0,
+        ..Entry::default()
     }
 }
 
@@ -141,8 +140,8 @@ pub fn mm_of(h: Head, c: Cell, r: Row, e: Entry) -> LostMm
     LostMm { oxidised, burned }
 }
 
-// What it loses in all, where its kg to date is `before`.
-#[tactic(auto, using(crate::proofs::Laws::lost_within, crate::proofs::Laws::emission_grows), unfolding(crate::specs::Year::loss_of))]
+// What it loses in all, where its kg to date is `before`, as a caller may have it from the year before.
+#[tactic(auto, using(crate::proofs::Laws::lost_within, crate::proofs::Laws::emission_grows))]
 pub fn loss_of(h: Head, c: Cell, r: Row, e: Entry, before: u32) -> Loss
     requires { WithinLimits h c e.oxidised e.burned × RowValid r × (before ≡ kg_of h c e) }
     ensures { result ≡ loss_of h c r e }

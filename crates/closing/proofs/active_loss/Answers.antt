@@ -1,9 +1,7 @@
 -- `closing::active_loss` meets its contract: the row is that of the cell's own stratum and age. Assumes nothing.
-use mathlib.Core.Path.{sym, ◌∙◌}
 use native.Mathlib.Omega.{arith}
 use Rattle.year.specs.Year.{age}
-use Rattle.year.proofs.Laws.{loss_active}
-use Rattle.closing.proofs.Closable.{cell_year_fit, active_age}
+use Rattle.closing.proofs.Closable.{cell_year_fit, active_age, active_loss_lem}
 use Rattle.closing.proofs.active_loss.Goals as goal
 
 pub overflow_sub-age : goal.overflow_sub-age
@@ -24,5 +22,4 @@ loss_of-requires c =
     rw c.args.listing.now.is_head (cell_year_fit a c.requires.0, rw c.row-r.ensures (a.row_valid c.args.c.stratum (age c.args.e.plan c.args.year)), c.requires.2)
 
 pub returns : goal.returns
-returns c =
-    rw (c.row-r.ensures, c.args.listing.now.is_head) at c.loss_of.ensures ∙ sym (loss_active _ _ _ _ _ c.requires.1)
+returns c = active_loss_lem _ _ _ _ _ c.args.listing.now.is_head c.requires.1 _ c.row-r.ensures _ c.loss_of.ensures

@@ -4,4 +4,4 @@ use Rattle.closing.proofs.Closable.{year_checked_is}
 use Rattle.closing.proofs.check_year.Goals as goal
 
 pub returns : goal.returns
-returns c = rw (c.need.ensures, c.year.ensures, listing_horizon c.args.listing.now, year_checked_is _ _ c.requires)
+returns c = rw (c.need.ensures, c.year.ensures, listing_horizon c.args.book.now.listing, year_checked_is _ _ c.args.book.now.accepted)

@@ -6,7 +6,7 @@ use Rattle.year.proofs.Laws.{after_loss_none, loss_inactive}
 use Rattle.book.specs.Layout.{entry_of, held_words}
 use Rattle.book.specs.AcceptedBook.{Storable}
 use Rattle.closing.specs.Closing.{cell_loss}
-use Rattle.closing.proofs.Closable.{cell_year_storable}
+use Rattle.closing.proofs.Closable.{cell_year_storable, step_loss}
 use Rattle.closing.proofs.close_cell.Goals as goal
 use Rattle.closing.proofs.close_cell.Goals.{After-active_loss-s}
 
@@ -34,3 +34,11 @@ after_loss-requires c = let fits = storable (goal.at.after_loss-requires c).Afte
 
 pub put_entry-requires-2 : goal.put_entry-requires-2
 put_entry-requires-2 c = (c.requires.0.sized, rw c.after_loss.ensures (storable (goal.at.put_entry-requires-2 c).After-active_loss-s))
+
+pub returns : goal.returns
+returns c =
+    let loss_is = step_loss _ _ _ _ c.cell-c.ensures c.entry_of-e.ensures c.active_loss-s.ensures in
+    record {
+      value = loss_is;
+      new_entry = c.put_entry-2.ensures ∙ ap (held_words _) (c.after_loss.ensures ∙ rw (c.entry_of-e.ensures) (ap (after_loss _) loss_is));
+    }

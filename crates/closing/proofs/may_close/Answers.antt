@@ -26,10 +26,10 @@ pub check_book-requires : goal.check_book-requires
 check_book-requires c =
     rw c.in_ok-accepted.ensures.same_words (fits (goal.at.check_book-requires c).In_ok-accepted)
 
-pub check_year-requires : goal.check_year-requires
-check_year-requires c =
+pub invariant_of-open : goal.invariant_of-open
+invariant_of-open c =
     let same = c.in_ok-accepted.ensures.same_words in
-    rw same (checked_by current _ _ shaped _ (fits (goal.at.check_year-requires c).In_ok-accepted) (rw same at c.in_ok-check_book.ensures))
+    rw same (record { accepted = checked_by current _ _ shaped _ (fits (goal.at.invariant_of-open c).In_ok-accepted) (rw same at c.in_ok-check_book.ensures) })
 
 pub returns-in_err-accepted-clause-value : goal.returns-in_err-accepted-clause-value
 unfolding close_answer

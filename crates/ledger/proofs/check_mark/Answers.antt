@@ -4,4 +4,4 @@ use Rattle.ledger.proofs.check_mark.Goals as goal
 
 pub returns : goal.returns
 unfolding mark_checked
-returns c = rw (c.need.ensures, c.entry.ensures)
+returns c = rw (c.need.ensures, c.entry-e.ensures)

@@ -42,6 +42,3 @@ returns-then-cells_valid c =
 pub returns : goal.returns
 returns c =
     c.first_invalid_cell_word.ensures ∙ (behind (fitted_book c.args.self.now) c.args.self.now.listing.is_head refl _ c.first_invalid_head_word-k.ensures c.if-k-self.false).same
-
-pub first_invalid_head_word-k-requires : goal.first_invalid_head_word-k-requires
-first_invalid_head_word-k-requires c = let capacity = (fitted_book c.args.self.now).capacity in omega arith

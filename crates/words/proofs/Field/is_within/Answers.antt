@@ -1,4 +1,4 @@
--- `words::bits_within` meets its contract: its two tests are the definition's. Assumes nothing.
+-- `words::Field::is_within` meets its contract: its two tests are the definition's. Assumes nothing.
 use Rattle.words.specs.Bits.{within}
 use Rattle.words.proofs.Field.is_within.Goals as goal
 

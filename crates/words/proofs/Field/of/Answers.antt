@@ -1,4 +1,4 @@
--- `words::bits` meets its contract: the field at position `low`, `high + 1 - low` bits wide. Assumes nothing.
+-- `words::Field::of` meets its contract: the field at position `low`, `high + 1 - low` bits wide. Assumes nothing.
 use native.Mathlib.Omega.{arith}
 use lib.Pow.{pow_pos}
 use Prim.Native.Nat.{◌+◌, ◌-◌}

@@ -1,4 +1,4 @@
--- `words::signed_bits` meets its contract: the sign's bit is inverted, and its worth taken off. Assumes nothing.
+-- `words::Field::signed_of` meets its contract: the sign's bit is inverted, and its worth taken off. Assumes nothing.
 use mathlib.Core.Path.{ap, ◌∙◌}
 use Prim.Native.Nat.{ℕ, ◌+◌, ◌-◌, ◌*◌, ◌%◌, ◌^◌}
 use native.Mathlib.Omega.{arith}
