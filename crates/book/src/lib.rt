@@ -59,8 +59,8 @@ struct FittedBook<'a> {
 }
 
 // An accepted listing, and an accepted book for it. Of a slice that is lent to be written the facts stay in
-// clauses: that it is accepted is false between two writes, and a struct with its length alone would have to
-// lend it again at each. So do those of functions that read a book of any shape, since this is of one.
+// clauses: that it is accepted need not hold between two writes, and a struct with its length alone would have
+// to lend it again at each. So do those of functions that read a book of any shape, since this is of one.
 #[derive(Clone, Copy, Debug, PartialEq, Eq)]
 pub struct OpenBook<'a> {
     pub listing: Listing<'a>,
@@ -107,7 +107,7 @@ fn is_burned_word(before: u32, w: u32, most: u32) -> bool
 }
 
 // Whether the word at `k` of the head is valid: which it is, its place says, by a branch as in the
-// definition.
+// definition. Of two closures one would be chosen by the same branch.
 fn is_head_word(w: u32, k: usize, horizon: u32) -> bool
     ensures { result ≡ is_head_word horizon k w }
 {
@@ -171,7 +171,7 @@ impl FittedBook<'_> {
         )
     }
 
-    // Whether the words of all cells are valid, without a branch for each cell: most are.
+    // Whether the words of all cells are valid, without a branch for each cell, as `entry_valid` has none.
     fn cells_valid(&self) -> bool
         ensures { result ≡ true →
             book_size self.now.shape (cells self.now.listing.words.now)
@@ -399,7 +399,7 @@ pub fn put_entry(words: &mut [u32], e: Entry)
     words[2] = Kind::Burned.word(e.burned);
 }
 
-// The functions above, for the shape in use.
+// The functions above, for the shape in use, so that whoever has an open book gives no shape.
 impl OpenBook<'_> {
     // The current year.
     pub fn year(&self) -> u32

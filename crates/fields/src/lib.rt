@@ -171,7 +171,7 @@ pub fn is_area_word(w: u32) -> bool
         & DENSITY.is_within(w, 1, MOST_DENSITY)
 }
 
-// Whether w is valid as a term: 1, or 3 and more.
+// Whether w is valid as a term: 1, or 3 and more, by the methodology's numbers.
 pub fn is_term_word(w: u32, horizon: u32) -> bool
     ensures { result ≡ is_term_word horizon w }
 {

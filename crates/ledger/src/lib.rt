@@ -1,5 +1,5 @@
 // The ledger's six calls. None requires anything of its caller; each answers a reason and a place where
-// it is refused, and then it has written nothing.
+// it is refused, and then it has written nothing. They take slices, as C gives them.
 #![tactic(auto)]
 
 ghost use Rattle.std.specs.Prelude.{◌≡◌, ◌<◌, [], IfOk};
@@ -114,7 +114,7 @@ fn may_replan<'a>(
     Ok(open)
 }
 
-// Gives a cell that is not yet converted another plan year, or 0 for never.
+// Gives a cell that is not yet converted another plan year, or 0 for never, as C gives it.
 pub fn replan(listing: &[u32], book: &mut [u32], cell: usize, year: u32) -> Result<(), Refusal>
     ensures { effect (outcome result) book.new [] ≡ replan_effect listing.now book.old cell year }
 {

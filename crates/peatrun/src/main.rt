@@ -50,7 +50,7 @@ fn print_refused(rt: &impl Print, why: Refusal) -> io::Result<()>
     println!(rt; "{why}")
 }
 
-// Prints the refusal of an answer.
+// Prints the refusal of an answer, which a `let .. else` cannot bind.
 fn print_refusal(rt: &impl Print, answer: Result<(), Refusal>) -> io::Result<()>
     requires { RefusedByListing (outcome answer) }
 {

@@ -10,7 +10,7 @@ ghost use Rattle.terms.specs.Split.{up_to, Split};
 use fields::YearlyTerm;
 use listing::Listing;
 
-// The last term that the buffer percentage is taken of, by its number.
+// The last term that the buffer percentage is taken of, by its number, as the methodology has it.
 const LAST_BUFFERED: u32 = 5;
 
 // The terms to date: all of them, for N, and those up to 5, for S. Peat, term 2, is not among them.

@@ -16,7 +16,7 @@ pub enum Line {
 }
 
 impl Line {
-    // Its place among a cell's lines.
+    // Its place among a cell's lines, by a method, as the number of a kind.
     pub fn place(self) -> usize
         ensures { result ≡ line_place self }
     {

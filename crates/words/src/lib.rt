@@ -175,7 +175,7 @@ pub fn is_kind(w: u32, kind: u32) -> bool
     KIND.of(w) == kind
 }
 
-// The word of a kind by its number, whose bits 27 to 0 are `payload`.
+// The word of a kind by its number, as above, whose bits 27 to 0 are `payload`.
 pub fn word(kind: u32, payload: u32) -> u32
     requires { (kind < 16) × (payload < 2 ^ 28) }
     ensures { result ≡ word_of kind payload }
