@@ -117,9 +117,9 @@ fn is_head_word(w: u32, k: usize, horizon: u32) -> bool
     Kind::Issued.is_of(w)
 }
 
-// Whether all of a cell's own words are valid: without a branch for each, since most are; with one a
-// closing took 12 percent longer. They are lent as a slice, since a cell of a coming shape has more. Head and
-// cell are two parameters, here and below, as in `year`.
+// Whether all of a cell's own words are valid: without a branch, since most are. With one for each cell a
+// closing took 12 percent longer (docs/DECISIONS.md). They are lent as a slice, since a cell of a coming shape
+// has more. Head and cell are two parameters, here and below, as in `year`.
 fn entry_valid(h: Head, c: Cell, entry: &[u32]) -> bool
     requires { Sized (length entry.now) }
     ensures { result ≡ true → All (entry_word_valid h c entry.now) (length entry.now) }
