@@ -23,7 +23,8 @@
  *   no.  met by                condition                                               place
  *    1   every listing         fewer than 2 words                                      0
  *    2                         word 0 or 1: kind, zero bits or range                   index of the word
- *    3                         fewer words than strata * horizon + 2 * cells + 2       length of the listing
+ *    3                         fewer words than strata * horizon + 2 * cells + 2,      length of the listing
+ *                              or + 3 where word 2 is a site word (kind 7)
  *    4                         a later word: kind, zero bits or range                  index of the word
  *    5                         a yearly term not above the one before                  index of the later term
  *    6   every book            shorter than 2 + 3 * cells words                        length of the book

@@ -1,6 +1,6 @@
 //! Listings, books, calls, floats and pools by a small generator (splitmix64), good and damaged.
 use crate::met::PAST;
-use crate::site::{Cell, Row, Site, YearlyTerm};
+use crate::site::{part, Cell, Row, Site, SiteWord, YearlyTerm};
 use crate::Reading;
 
 pub struct Random(pub u64);
@@ -104,6 +104,7 @@ fn richest(random: &mut Random) -> Site {
         buffer: figure(random, 0, 100),
         warming: 100,
         methane: 100,
+        site_word: site_word(random),
         cells: (0..size.cells).map(|_| cell(random)).collect(),
         terms: terms(random, size),
     }
@@ -111,18 +112,40 @@ fn richest(random: &mut Random) -> Site {
 
 /// A good site of this size; a cell's stratum is drawn, so cells are not sorted by stratum.
 fn site(random: &mut Random, size: Size) -> Site {
-    let wide = random.once_in(3);
-    let ages = size.horizon;
-    let tables = (0..size.strata).map(|_| (0..ages).map(|_| row(random, wide)).collect());
-    Site {
+    let mut site = Site {
         horizon: size.horizon,
-        tables: tables.collect(),
         buffer: figure(random, 0, 100),
         warming: figure(random, 1, 100),
         methane: figure(random, 0, 100),
-        cells: (0..size.cells).map(|_| cell(random, size)).collect(),
+        site_word: site_word(random),
+        tables: Vec::new(),
+        cells: Vec::new(),
         terms: terms(random, size),
-    }
+    };
+    let wide = random.once_in(3);
+    let (guard, thickness) = (site.guard(), site.thickness());
+    let mut table = || {
+        (0..size.horizon)
+            .map(|_| row(random, wide, guard))
+            .collect()
+    };
+    site.tables = (0..size.strata).map(|_| table()).collect();
+    site.cells = (0..size.cells)
+        .map(|_| cell(random, size, thickness))
+        .collect();
+    site
+}
+
+/// Half of the listings carry it, mostly with figures that drainage and peat come near.
+fn site_word(random: &mut Random) -> Option<SiteWord> {
+    let mm = |random: &mut Random| match random.between(0, 3) {
+        0 => figure(random, 0, 2_000),
+        _ => random.between(0, 600),
+    };
+    random.once_in(2).then(|| SiteWord {
+        guard: mm(random),
+        thickness: mm(random),
+    })
 }
 
 /// An end of the range or anything in it.
@@ -135,7 +158,7 @@ fn figure(random: &mut Random, least: u32, most: u32) -> u32 {
 }
 
 /// Drainage around the guard and losses of a real site, or any values at all.
-fn row(random: &mut Random, wide: bool) -> Row {
+fn row(random: &mut Random, wide: bool, guard: u32) -> Row {
     let (drainage, oxidation, burning) = if wide {
         (255, 1_023, 1_023)
     } else {
@@ -143,7 +166,8 @@ fn row(random: &mut Random, wide: bool) -> Row {
     };
     Row {
         drainage: if random.once_in(4) {
-            random.between(39, 42)
+            let just_below = (guard / 10).saturating_sub(1);
+            random.between(just_below, guard / 10 + 2)
         } else {
             random.between(0, drainage)
         },
@@ -152,9 +176,13 @@ fn row(random: &mut Random, wide: bool) -> Row {
     }
 }
 
-fn cell(random: &mut Random, size: Size) -> Cell {
+/// A depth next to the least thickness, or any.
+fn cell(random: &mut Random, size: Size, thickness: u32) -> Cell {
     let entered = match random.between(0, 9) {
-        0 => random.pick(&[0, 1, 299, 300, 301, 20_000]),
+        0 => {
+            let just_below = thickness.saturating_sub(1);
+            random.pick(&[0, 1, just_below, thickness, thickness + 1, 20_000])
+        }
         1 => random.between(0, 400),
         2..=6 => random.between(300, 2_500),
         _ => random.between(300, 20_000),
@@ -182,7 +210,7 @@ fn terms(random: &mut Random, size: Size) -> Vec<YearlyTerm> {
     terms
 }
 
-/// The longest listing there is, 2,814 words, with the losses of a real site: its cells still lose in late years.
+/// The longest listing there is, 2,815 words, with the losses of a real site: its cells still lose in late years.
 pub fn largest() -> Site {
     let random = &mut Random(2_814);
     let fire_every_ten_years = |random: &mut Random, age| Row {
@@ -203,6 +231,10 @@ pub fn largest() -> Site {
         buffer: 20,
         warming: 25,
         methane: 12,
+        site_word: Some(SiteWord {
+            guard: 350,
+            thickness: 250,
+        }),
         tables: tables.collect(),
         cells: (0..256).map(|_| hectare(random)).collect(),
         terms: every_term(random),
@@ -239,7 +271,11 @@ pub fn book(random: &mut Random, site: &Site) -> Vec<u32> {
     let issued = random.between(0, issued);
     let mut book = vec![8 << 28 | current, 9 << 28 | issued];
     for cell in &site.cells {
-        let most = if cell.entered < 300 { 0 } else { cell.entered };
+        let most = if cell.entered < site.thickness() {
+            0
+        } else {
+            cell.entered
+        };
         let lost = figure(random, 0, most);
         let burned = random.between(0, lost);
         let plan_year = random.between(0, site.horizon);
@@ -267,6 +303,12 @@ pub fn past_range(random: &mut Random, site: &Site) -> (Vec<u32>, &'static str) 
         });
     }
     let (horizon, strata) = (site.horizon, site.tables.len() as u32);
+    if which.starts_with("guard") || which.starts_with("least thickness") {
+        site.site_word.get_or_insert(SiteWord {
+            guard: 2_000,
+            thickness: 2_000,
+        });
+    }
     let cell = random.below(site.cells.len());
     let term = random.below(site.terms.len());
     let (cell, term) = (&mut site.cells[cell], &mut site.terms[term]);
@@ -275,6 +317,14 @@ pub fn past_range(random: &mut Random, site: &Site) -> (Vec<u32>, &'static str) 
         "G 0" => site.warming = 0,
         "G 101" => site.warming = 101,
         "e 101" => site.methane = 101,
+        "guard 2,001" => site
+            .site_word
+            .iter_mut()
+            .for_each(|word| word.guard = 2_001),
+        "least thickness 2,001" => site
+            .site_word
+            .iter_mut()
+            .for_each(|word| word.thickness = 2_001),
         "stratum" => cell.stratum = strata,
         "conversion year" => cell.conversion = horizon + 1,
         "depth 20,001" => cell.entered = 20_001,
@@ -307,6 +357,26 @@ fn past_size(which: &str, word: &mut u32) {
     };
     let mask = ((1 << width) - 1) << low;
     *word = *word & !mask | figure << low;
+}
+
+/// A good site's listing with one word made kind 7, and which: only word 2 is then a site word, and the first row's word is
+/// taken for it where there was none.
+pub fn kind_7(random: &mut Random, site: &Site) -> (Vec<u32>, &'static str) {
+    let mut words = site.words();
+    let last = words.len() - 1;
+    let place = match random.between(0, 4) {
+        early @ 0..=2 => early as usize,
+        3 => last,
+        _ => random.between(3, last as u32) as usize,
+    };
+    let which = match place {
+        0 => "word 0",
+        1 => "word 1",
+        2 => "word 2",
+        _ => part(&words, place),
+    };
+    words[place] = 7 << 28 | words[place] & 0x0FFF_FFFF;
+    (words, which)
 }
 
 /// Makes one thing invalid, most likely; some changes leave a listing or a book valid.

@@ -1,4 +1,4 @@
-//! Reading the files of samples/, and document 01's worked listing as it is printed there.
+//! Reading the files of samples/, and the papers' worked listings as they are printed there.
 use std::path::PathBuf;
 
 pub const WORKED: [u32; 6] = [
@@ -20,6 +20,23 @@ year ox burn kg issued
 2 45 0 82500 0
 left 1610
 ";
+
+/// Guard 500 and least thickness 300, as word 2 of the worked listing.
+pub const SITE_WORD: u32 = 0x707D012C;
+
+pub const SITE_WORD_TEXT: &str = "\
+year ox burn kg issued
+1 45 200 489166 391
+2 45 0 82500 65
+left 1710
+";
+
+/// The worked listing with that word, or another, as word 2.
+pub fn with_site_word(word: u32) -> Vec<u32> {
+    let [head @ .., _, _, _, _] = WORKED;
+    let [_, _, rest @ ..] = WORKED;
+    [&head[..], &[word], &rest[..]].concat()
+}
 
 pub fn directory() -> PathBuf {
     PathBuf::from(concat!(env!("CARGO_MANIFEST_DIR"), "/../samples"))

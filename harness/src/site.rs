@@ -25,6 +25,19 @@ pub struct YearlyTerm {
     pub tonnes: i32,
 }
 
+/// In mm: the guard, and the least thickness of peat.
+#[derive(Clone, Copy, Debug)]
+pub struct SiteWord {
+    pub guard: u32,
+    pub thickness: u32,
+}
+
+/// What they are in a listing without a site word.
+const NO_SITE_WORD: SiteWord = SiteWord {
+    guard: 400,
+    thickness: 300,
+};
+
 /// Buffer in percent, warming potential of methane, methane emission ratio in thousandths.
 #[derive(Clone, Debug)]
 pub struct Site {
@@ -32,6 +45,8 @@ pub struct Site {
     pub buffer: u32,
     pub warming: u32,
     pub methane: u32,
+    /// Word 2, if the listing is to carry it.
+    pub site_word: Option<SiteWord>,
     pub tables: Vec<Vec<Row>>,
     pub cells: Vec<Cell>,
     pub terms: Vec<YearlyTerm>,
@@ -42,12 +57,15 @@ pub const BOOK_HEAD: usize = 2;
 pub const BOOK_CELL_WORDS: usize = 3;
 pub const LINE_WORDS: usize = 3;
 
-/// The part of a listing in which the word at a place is, by the sizes in its word 0.
+/// The part of a listing in which the word at a place from 2 on is, by the sizes in its word 0 and the kind of its word 2.
 pub fn part(listing: &[u32], place: usize) -> &'static str {
     let [cells, strata, horizon] =
         [(16, 0xFFF), (8, 0xFF), (0, 0xFF)].map(|(low, mask)| (listing[0] >> low & mask) as usize);
-    let first_cell = 2 + strata * horizon;
-    if place < first_cell {
+    let tables = 2 + usize::from(listing[2] >> 28 == 7);
+    let first_cell = tables + strata * horizon;
+    if place < tables {
+        "the site word"
+    } else if place < first_cell {
         "a table's word"
     } else if place >= first_cell + 2 * cells {
         "a term"
@@ -60,6 +78,7 @@ pub fn part(listing: &[u32], place: usize) -> &'static str {
 pub enum Content<'a> {
     Sizes(&'a Site),
     Figures(&'a Site),
+    SiteWord(SiteWord),
     Row(usize, usize, Row),
     Depth(usize, Cell),
     Area(usize, Cell),
@@ -70,6 +89,7 @@ impl Site {
     /// The listing, word for word.
     pub fn contents(&self) -> Vec<Content<'_>> {
         let mut contents = vec![Content::Sizes(self), Content::Figures(self)];
+        contents.extend(self.site_word.map(Content::SiteWord));
         for (stratum, table) in self.tables.iter().enumerate() {
             contents.extend(
                 (1..)
@@ -86,6 +106,15 @@ impl Site {
 
     pub fn words(&self) -> Vec<u32> {
         self.contents().iter().map(Content::word).collect()
+    }
+
+    /// The guard, and the least thickness of peat, that its rules go by.
+    pub fn guard(&self) -> u32 {
+        self.site_word.unwrap_or(NO_SITE_WORD).guard
+    }
+
+    pub fn thickness(&self) -> u32 {
+        self.site_word.unwrap_or(NO_SITE_WORD).thickness
     }
 
     /// The words that its book needs, and its lines.
@@ -108,6 +137,7 @@ impl Content<'_> {
             Content::Figures(site) => {
                 2 << 28 | site.buffer << 16 | site.warming << 8 | site.methane
             }
+            Content::SiteWord(word) => 7 << 28 | word.guard << 14 | word.thickness,
             Content::Row(_, _, row) => {
                 3 << 28 | row.drainage << 20 | row.oxidation << 10 | row.burning
             }
@@ -133,6 +163,10 @@ impl Content<'_> {
             Content::Figures(site) => format!(
                 "buffer {} percent, warming potential of methane {}, methane emission ratio {} thousandths",
                 site.buffer, site.warming, site.methane
+            ),
+            Content::SiteWord(word) => format!(
+                "guard {} mm, least thickness of peat {} mm",
+                word.guard, word.thickness
             ),
             Content::Row(stratum, age, row) => format!(
                 "stratum {stratum}, age {age}: drainage {} cm, oxidation at most {} mm, burning at most {} mm",

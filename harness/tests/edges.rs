@@ -1,8 +1,8 @@
-//! Document 01's worked figures, the ends of lengths and readings, and the claims on lists where they fail.
+//! The papers' worked figures, the ends of lengths and readings, and the claims on lists where they fail.
 use harness::generate::{self, Random};
-use harness::reference::{self, History, GUARD};
-use harness::sample::{NEGATIVE_TERM, WORKED};
-use harness::site::{Cell, Row, Site};
+use harness::reference::{self, guard, History};
+use harness::sample::{with_site_word, NEGATIVE_TERM, SITE_WORD, WORKED};
+use harness::site::{Cell, Row, Site, SiteWord};
 use harness::{Account, Answer, Ledger, Reading, PROVED, REFERENCE};
 
 fn both(check: impl Fn(&Ledger)) {
@@ -27,6 +27,11 @@ fn refused(number: u32, place: usize) -> Answer {
 
 /// One cell, converted in year 1, with one row.
 fn one_cell(row: Row, entered: u32) -> Vec<u32> {
+    one_cell_of(None, row, entered)
+}
+
+/// The same of a site with its own figures.
+fn one_cell_of(site_word: Option<SiteWord>, row: Row, entered: u32) -> Vec<u32> {
     let cell = Cell {
         stratum: 0,
         conversion: 1,
@@ -39,6 +44,7 @@ fn one_cell(row: Row, entered: u32) -> Vec<u32> {
         buffer: 20,
         warming: 25,
         methane: 12,
+        site_word,
         tables: vec![vec![row]],
         cells: vec![cell],
         terms: vec![],
@@ -73,6 +79,104 @@ fn worked_years() {
             assert_eq!(lines[..2], [13 << 28 | oxidised, 14 << 28 | burned]);
         });
     }
+}
+
+/// Guard, least thickness, d, b and entered depth, to burned: the guard stays dry, and what is thinner is no peat. The
+/// cell oxidises nothing.
+#[test]
+fn site_figures() {
+    let rows = [
+        (0, 300, 340, 400, 2000, 340),
+        (0, 300, 2_000, 400, 2000, 400),
+        (1, 300, 340, 400, 2000, 339),
+        (2_000, 300, 2_550, 1_000, 2000, 550),
+        (2_000, 300, 2_000, 1_000, 2000, 0),
+        (400, 0, 700, 340, 0, 0),
+        (400, 0, 700, 340, 1, 1),
+        (400, 2_000, 700, 340, 1_999, 0),
+        (400, 2_000, 700, 340, 2_000, 300),
+        (0, 0, 10, 340, 5, 5),
+    ];
+    for (guard, thickness, dry, burning, entered, burned) in rows {
+        let row = Row {
+            drainage: dry / 10,
+            oxidation: 0,
+            burning,
+        };
+        let listing = one_cell_of(Some(SiteWord { guard, thickness }), row, entered);
+        both(|ledger| {
+            let (mut book, mut lines) = ([0; 5], [0; 3]);
+            assert_eq!((ledger.open)(&listing, &mut book), accepted(0));
+            assert_eq!((ledger.close)(&listing, &mut book, &mut lines), accepted(0));
+            assert_eq!(lines[..2], [13 << 28, 14 << 28 | burned]);
+            // A book that has lost more than the cell may lose is refused at kind 12.
+            let most = if entered < thickness { 0 } else { entered };
+            book[3..].copy_from_slice(&[11 << 28 | most, 12 << 28]);
+            let answer = (ledger.statement)(&listing, &book, 0);
+            assert_eq!((answer.number, answer.remaining), (0, entered - most));
+            book[4] = 12 << 28 | 1;
+            let answer = (ledger.statement)(&listing, &book, 0);
+            assert_eq!((answer.number, answer.place), (8, 4));
+        });
+    }
+}
+
+#[test]
+fn worked_site_word() {
+    both(|ledger| {
+        let listing = with_site_word(SITE_WORD);
+        let (mut book, mut lines) = ([0; 5], [0; 3]);
+        assert_eq!((ledger.open)(&listing, &mut book), accepted(0));
+        assert_eq!((ledger.close)(&listing, &mut book, &mut lines), accepted(0));
+        assert_eq!(lines, [13 << 28 | 45, 14 << 28 | 200, 15 << 28 | 489_166]);
+        assert_eq!((ledger.issue)(&listing, &mut book), accepted(391));
+        assert_eq!((ledger.close)(&listing, &mut book, &mut lines), accepted(0));
+        assert_eq!(lines, [13 << 28 | 45, 14 << 28, 15 << 28 | 82_500]);
+        assert_eq!((ledger.issue)(&listing, &mut book), accepted(65));
+        assert_eq!((ledger.statement)(&listing, &book, 0).remaining, 1_710);
+    });
+}
+
+/// Which word a kind 7 is refused at, and which a site word.
+#[test]
+fn refused_site_words() {
+    let mut first_row = WORKED;
+    first_row[2] = 0x7460_B554;
+    let mut word_1 = WORKED;
+    word_1[1] = 0x7014_190C;
+    let mut word_0 = WORKED;
+    word_0[0] |= 6 << 28;
+    let two_site_words = [
+        &with_site_word(SITE_WORD)[..3],
+        &with_site_word(SITE_WORD)[2..],
+    ]
+    .concat();
+    let mut invalid_row = with_site_word(0x7000_07D1);
+    invalid_row[3] = 0;
+    let refusals: [(&[u32], u32, usize); 10] = [
+        (&with_site_word(0x707D_07D1), 4, 2),
+        // Guard 2,001; both; and before the word of a table that is no such word.
+        (&with_site_word(7 << 28 | 2_001 << 14 | 300), 4, 2),
+        (&with_site_word(0x7FFF_FFFF), 4, 2),
+        (&invalid_row, 4, 2),
+        (&first_row, 3, 6),
+        (&word_1, 2, 1),
+        (&word_0, 2, 0),
+        (&two_site_words, 4, 3),
+        (&WORKED[..2], 3, 2),
+        (&[&WORKED[..], &[SITE_WORD]].concat(), 4, 6),
+    ];
+    both(|ledger| {
+        for (listing, number, place) in refusals {
+            let mut book = [7; 5];
+            assert_eq!((ledger.open)(listing, &mut book), refused(number, place));
+            assert_eq!(book, [7; 5]);
+        }
+        for ends in [0, 2_000 << 14 | 2_000] {
+            let listing = with_site_word(7 << 28 | ends);
+            assert_eq!((ledger.open)(&listing, &mut [0; 5]), accepted(0));
+        }
+    });
 }
 
 #[test]
@@ -188,10 +292,12 @@ fn worked_discounts() {
 fn lengths() {
     both(|ledger| {
         let mut book = [0; 5];
-        for length in 0..WORKED.len() {
-            let (number, place) = if length < 2 { (1, 0) } else { (3, length) };
-            let answer = (ledger.open)(&WORKED[..length], &mut book);
-            assert_eq!(answer, refused(number, place));
+        for listing in [&WORKED[..], &with_site_word(SITE_WORD)] {
+            for length in 0..listing.len() {
+                let (number, place) = if length < 2 { (1, 0) } else { (3, length) };
+                let answer = (ledger.open)(&listing[..length], &mut book);
+                assert_eq!(answer, refused(number, place));
+            }
         }
         for length in 0..5 {
             let short = &mut [0; 5][..length];
@@ -214,11 +320,11 @@ fn lengths() {
     });
 }
 
-/// 256 cells, 16 strata, 100 years and 700 terms, closed to the end; then the answers of a full book.
+/// 256 cells, 16 strata, 100 years, a site word and 700 terms, closed to the end; then the answers of a full book.
 #[test]
 fn largest() {
     let listing = generate::largest().words();
-    assert_eq!(listing.len(), 2_814);
+    assert_eq!(listing.len(), 2_815);
     let mut results = [&PROVED, &REFERENCE].map(|ledger| {
         let mut book = Random(6).words(2 + 3 * 256);
         let mut lines = Random(7).words(3 * 256);
@@ -241,10 +347,10 @@ fn largest() {
     assert!(results[0] == results[1]);
     // A 701st term cannot rise.
     let mut longer = listing.clone();
-    longer.push(listing[2_813]);
+    longer.push(listing[2_814]);
     both(|ledger| {
         let answer = (ledger.open)(&longer, &mut results[0].1.clone());
-        assert_eq!(answer, refused(5, 2_814));
+        assert_eq!(answer, refused(5, 2_815));
     });
     results[0].1[2 + 3 * 255] = 0;
     both(|ledger| {
@@ -291,14 +397,14 @@ fn claims_that_fail() {
         (history, fires[0].stayed_dry)
     };
     let (mut history, stayed_dry) = closed([0, 0, 0]);
-    assert_eq!(stayed_dry, GUARD);
+    assert_eq!(stayed_dry, guard(&WORKED));
     assert!(history.depth_holds(0, &account) && history.kilograms_hold(0));
     history.issued(553);
     assert!(history.issues_hold());
     let (history, _) = closed([1, 0, 0]);
     assert!(!history.depth_holds(0, &account) && !history.kilograms_hold(0));
     let (history, stayed_dry) = closed([0, 1, 0]);
-    assert!(!history.depth_holds(0, &account) && stayed_dry < GUARD);
+    assert!(!history.depth_holds(0, &account) && stayed_dry < guard(&WORKED));
     for more in [1, u32::MAX] {
         let mut history = History::opened(&WORKED);
         history.closed(&[lines[0], lines[1], lines[2].wrapping_add(more)]);
@@ -324,6 +430,7 @@ fn small_cells_emit() {
         buffer: 0,
         warming: 1,
         methane: 0,
+        site_word: None,
         tables: vec![vec![row; 100]],
         cells: vec![Cell {
             stratum: 0,

@@ -47,7 +47,7 @@ fn samples() {
             count += 1;
         }
     }
-    assert!(count >= 13);
+    assert!(count >= 16);
 }
 
 #[test]
@@ -82,10 +82,10 @@ fn lengths() {
         assert_eq!(peatrun(&words[..length]), "odd bytes\n");
     }
     assert_eq!(peatrun(&words[..4]), "refused 1 0\n");
-    assert_eq!(peatrun(&words[..11_255]), "odd bytes\n");
+    assert_eq!(peatrun(&words[..11_259]), "odd bytes\n");
     assert_eq!(peatrun(&words), reference::program(&words));
-    assert_eq!(peatrun(&[0; 11_256]), "refused 2 0\n");
-    for length in [11_257, 11_260, 300_000] {
+    assert_eq!(peatrun(&[0; 11_260]), "refused 2 0\n");
+    for length in [11_261, 11_264, 300_000] {
         assert_eq!(peatrun(&vec![0; length]), "too long\n");
     }
 }

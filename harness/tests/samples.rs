@@ -1,4 +1,4 @@
-//! The files of samples/: companions against the bytes, expected texts against the reference and document 01.
+//! The files of samples/: companions against the bytes, expected texts against the reference and the papers.
 use harness::{reference, sample};
 use std::fs;
 use std::path::Path;
@@ -127,6 +127,12 @@ fn worked_ones_are_those_of_the_paper() {
         text("worked-negative-term", "expected"),
         sample::NEGATIVE_TERM_TEXT
     );
+    let with_site_word = sample::with_site_word(sample::SITE_WORD);
+    assert_eq!(
+        read("worked-site-word", "bin"),
+        sample::bytes(&with_site_word)
+    );
+    assert_eq!(text("worked-site-word", "expected"), sample::SITE_WORD_TEXT);
 }
 
 #[test]
@@ -138,6 +144,7 @@ fn each_refusal_of_a_listing_has_its_sample() {
     assert_eq!(text("empty", "expected"), "refused 1 0\n");
     assert_eq!(text("too-long", "expected"), "too long\n");
     assert_eq!(text("odd-bytes", "expected"), "odd bytes\n");
-    assert_eq!(read("largest", "bin").len(), 11_256);
-    assert_eq!(read("too-long", "bin").len(), 11_257);
+    assert_eq!(text("refused-4-site-word", "expected"), "refused 4 2\n");
+    assert_eq!(read("largest", "bin").len(), 11_260);
+    assert_eq!(read("too-long", "bin").len(), 11_261);
 }

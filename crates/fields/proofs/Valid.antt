@@ -5,7 +5,7 @@ use mathlib.Core.Bool.{Bool, true, false, ◌&&◌, ◌||◌}
 use Prim.Native.Nat.{ℕ, ◌+◌, ◌-◌, ◌*◌, ◌≤◌, ◌<◌}
 use native.Mathlib.Omega.{arith}
 use lib.Dec.{eqb, ltb}
-use borrow.Author.Tests.{ltb-true, eqb-true, lt-ltb, le-ltb, eq-eqb, ne_eqb}
+use borrow.Author.Tests.{ltb-true, leb-true, eqb-true, lt-ltb, le-ltb, eq-eqb, ne_eqb}
 use Rattle.std.specs.Coded.{×_prop, le_prop}
 use Rattle.std.proofs.Math.Nat.{ℕ_set}
 use Rattle.words.specs.Bits.{within}
@@ -15,20 +15,20 @@ use Rattle.words.proofs.Answers.{and_left, and_right, within_least, within_most}
 use Rattle.fields.specs.Fields.{cells_of, strata_of, horizon_of, buffer_of, warming_of, methane_of, stratum_of, conversion_of, entered_of, area_of, density_of}
 use Rattle.fields.specs.Fields.{term_of, year_of, head_of, row_of, cell_of}
 use Rattle.fields.specs.Words.{most_cells, most_strata, most_horizon, most_buffer, most_warming, most_methane, most_depth, most_area, most_density, most_term, year_terms}
-use Rattle.fields.specs.Words.{is_size_word, is_figure_word, is_depth_word, is_area_word, is_term_word, is_above}
+use Rattle.fields.specs.Words.{is_size_word, is_figure_word, is_site_valid, is_depth_word, is_area_word, is_term_word, is_above}
 use Rattle.fields.specs.Valid.{SizesWithin, HeadValid, RowValid, CellValid, Listed, TermValid, term_order}
 
-pub sizes_within : (w v : ℕ) → is_size_word w ≡ true → SizesWithin (head_of w v)
+pub sizes_within : (w v x : ℕ) → is_size_word w ≡ true → SizesWithin (head_of w v x)
 unfolding is_size_word head_of
-sizes_within w v p =
+sizes_within w v x p =
     let cells : within 1 most_cells (cells_of w) ≡ true = search (and_left, and_right) in
     let strata : within 1 most_strata (strata_of w) ≡ true = search (and_left, and_right) in
     let horizon : within 1 most_horizon (horizon_of w) ≡ true = search (and_left, and_right) in
     record { cells = within_most _ _ _ cells; strata = within_most _ _ _ strata; horizon = within_most _ _ _ horizon }
 
-pub head_valid : (w v : ℕ) → is_size_word w ≡ true → is_figure_word v ≡ true → HeadValid (head_of w v)
-unfolding is_size_word is_figure_word head_of
-head_valid w v p q =
+pub head_valid : (w v x : ℕ) → is_size_word w ≡ true → is_figure_word v ≡ true → is_site_valid (head_of w v x) ≡ true → HeadValid (head_of w v x)
+unfolding is_size_word is_figure_word is_site_valid head_of
+head_valid w v x p q r =
     let cells : within 1 most_cells (cells_of w) ≡ true = search (and_left, and_right) in
     let strata : within 1 most_strata (strata_of w) ≡ true = search (and_left, and_right) in
     let horizon : within 1 most_horizon (horizon_of w) ≡ true = search (and_left, and_right) in
@@ -42,6 +42,8 @@ head_valid w v p q =
       buffer = within_most _ _ _ buffer;
       warming = (within_least _ _ _ warming, within_most _ _ _ warming);
       methane = within_most _ _ _ methane;
+      guard = leb-true _ _ (and_left _ _ r);
+      thickness = leb-true _ _ (and_right _ _ r);
     }
 
 -- every word of a table is valid, by the width of its fields

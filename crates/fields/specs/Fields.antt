@@ -1,6 +1,7 @@
--- Document 01, "Project listing": the fields of each kind of word, w. The bits that must be zero are named in Words.antt.
-use Rattle.std.specs.Prelude.{ℕ, ℤ}
-use Rattle.words.specs.Bits.{bits, signed_bits}
+-- Document 01, "Project listing", with the site word of document 02: the fields of each kind of word, w. The bits that must be zero are named
+-- in Words.antt.
+use Rattle.std.specs.Prelude.{ℕ, ℤ, cond}
+use Rattle.words.specs.Bits.{bits, signed_bits, is_kind}
 use Rattle.fields.specs.declared.Head.{Head}
 use Rattle.fields.specs.declared.Row.{Row}
 use Rattle.fields.specs.declared.Cell.{Cell}
@@ -63,11 +64,25 @@ year_of w = bits w 23 17
 abbrev pub tonnes_of : ℕ → ℤ
 tonnes_of w = signed_bits w 16 0
 
+-- kind 7, the site word, which is word 2 where a listing carries it: the guard and the least thickness of peat, in mm
+abbrev pub guard_of : ℕ → ℕ
+guard_of w = bits w 27 14
+
+abbrev pub thickness_of : ℕ → ℕ
+thickness_of w = bits w 13 0
+
+-- and what they are in a listing without it
+abbrev pub default_guard : ℕ
+default_guard = 400
+
+abbrev pub default_thickness : ℕ
+default_thickness = 300
+
 -- ---- the same together
 
--- words 0 and 1, and the two site figures of "A cell's year" in mm, which no word states: the dry guard and the least thickness of peat
-unfoldable pub head_of : ℕ → ℕ → Head
-head_of w v =
+-- words 0 and 1, and x, word 2: the site word where it is of kind 7, and otherwise there is none
+unfoldable pub head_of : ℕ → ℕ → ℕ → Head
+head_of w v x =
     record {
       cells = cells_of w;
       strata = strata_of w;
@@ -75,8 +90,9 @@ head_of w v =
       buffer = buffer_of v;
       warming = warming_of v;
       methane = methane_of v;
-      guard = 400;
-      thickness = 300;
+      has_site = is_kind 7 x;
+      guard = cond (is_kind 7 x) (guard_of x) default_guard;
+      thickness = cond (is_kind 7 x) (thickness_of x) default_thickness;
     }
 
 -- a word of a table

@@ -1,7 +1,7 @@
 -- What valid words guarantee, for the contracts of the crates above. proofs/Valid.antt makes it from the tests.
 use Rattle.std.specs.Prelude.{◌≡◌, ◌⊎◌, ℕ, ◌+◌, ◌*◌, ◌≤◌, ◌<◌}
 use Rattle.fields.specs.Fields.{term_of, year_of}
-use Rattle.fields.specs.Words.{most_cells, most_strata, most_horizon, most_buffer, most_warming, most_methane, most_depth, most_area, most_density, most_term}
+use Rattle.fields.specs.Words.{most_cells, most_strata, most_horizon, most_buffer, most_warming, most_methane, most_guard, most_thickness, most_depth, most_area, most_density, most_term}
 use Rattle.fields.specs.declared.Head.{Head}
 use Rattle.fields.specs.declared.Row.{Row}
 use Rattle.fields.specs.declared.Cell.{Cell}
@@ -12,7 +12,7 @@ pub record SizesWithin (h : Head) : Type 0 where
   pub strata : h.strata ≤ most_strata
   pub horizon : h.horizon ≤ most_horizon
 
--- the figures of words 0 and 1
+-- the figures of words 0 and 1, and of the site
 pub record HeadValid (h : Head) : Type 0 where
   pub cells : (1 ≤ h.cells) × (h.cells ≤ most_cells)
   pub strata : (1 ≤ h.strata) × (h.strata ≤ most_strata)
@@ -20,6 +20,8 @@ pub record HeadValid (h : Head) : Type 0 where
   pub buffer : h.buffer ≤ most_buffer
   pub warming : (1 ≤ h.warming) × (h.warming ≤ most_warming)
   pub methane : h.methane ≤ most_methane
+  pub guard : h.guard ≤ most_guard
+  pub thickness : h.thickness ≤ most_thickness
 
 -- a row's figures
 pub record RowValid (r : Row) : Type 0 where

@@ -1,7 +1,8 @@
--- Document 01, "Project listing": which words are valid, each by itself, and the order of terms.
-use Rattle.std.specs.Prelude.{ℕ, Bool, ◌&&◌, ◌||◌, ltb, eqb}
+-- Document 01, "Project listing", with the site word of document 02: which words are valid, each by itself, and the order of terms.
+use Rattle.std.specs.Prelude.{ℕ, Bool, ◌&&◌, ◌||◌, leb, ltb, eqb}
 use Rattle.words.specs.Bits.{bits, within, is_kind}
 use Rattle.fields.specs.Fields.{cells_of, strata_of, horizon_of, buffer_of, warming_of, methane_of, stratum_of, conversion_of, entered_of, area_of, density_of, term_of, year_of}
+use Rattle.fields.specs.declared.Head.{Head}
 
 -- the limits of word 0
 abbrev pub most_cells : ℕ
@@ -22,6 +23,13 @@ most_warming = 100
 
 abbrev pub most_methane : ℕ
 most_methane = 100
+
+-- of the site word: guard, least thickness
+abbrev pub most_guard : ℕ
+most_guard = 2000
+
+abbrev pub most_thickness : ℕ
+most_thickness = 2000
 
 -- of a cell's words: depth, area, density
 abbrev pub most_depth : ℕ
@@ -54,6 +62,10 @@ is_size_word w = is_kind 1 w && within 1 most_cells (cells_of w) && within 1 mos
 -- word 1: p 0–100, G 1–100, e 0–100; bits 27–23 are zero
 unfoldable pub is_figure_word : ℕ → Bool
 is_figure_word w = is_kind 2 w && eqb (bits w 27 23) 0 && within 0 most_buffer (buffer_of w) && within 1 most_warming (warming_of w) && within 0 most_methane (methane_of w)
+
+-- the site's figures, from its word or without one: a guard and a least thickness of 0–2,000; the word has no zero bits
+unfoldable pub is_site_valid : Head → Bool
+is_site_valid h = leb h.guard most_guard && leb h.thickness most_thickness
 
 -- a word of a table: all values are allowed
 abbrev pub is_table_word : ℕ → Bool

@@ -1,10 +1,10 @@
 // The words of a project's listing, each by itself: which are valid, and their fields.
 #![tactic(auto)]
 
-ghost use Rattle.std.specs.Prelude.{◌≡◌};
-ghost use Rattle.words.specs.Bits.{is_kind};
+ghost use Rattle.std.specs.Prelude.{◌≡◌, cond};
+ghost use Rattle.words.specs.Bits.{bits, is_kind};
 ghost use Rattle.fields.specs.Fields.{head_of, row_of, cell_of, yearly_term_of};
-ghost use Rattle.fields.specs.Words.{is_size_word, is_figure_word, is_table_word, is_depth_word, is_area_word, is_term_word, is_above};
+ghost use Rattle.fields.specs.Words.{is_size_word, is_figure_word, is_site_valid, is_table_word, is_depth_word, is_area_word, is_term_word, is_above};
 ghost use Rattle.fields.specs.Valid.{term_order};
 
 use words::{Field, Kind};
@@ -22,6 +22,11 @@ const MOST_BUFFER: u32 = 100;
 const MOST_WARMING: u32 = 100;
 
 const MOST_METHANE: u32 = 100;
+
+// Of the site word: the guard, the least thickness of peat.
+const MOST_GUARD: u32 = 2_000;
+
+const MOST_THICKNESS: u32 = 2_000;
 
 // Of a cell's words.
 const MOST_DEPTH: u32 = 20_000;
@@ -48,6 +53,15 @@ const BUFFER: Field = Field { high: 22, low: 16 };
 const WARMING: Field = Field { high: 15, low: 8 };
 
 const METHANE: Field = Field { high: 7, low: 0 };
+
+// Of the site word, and what they are in a listing without it.
+const GUARD: Field = Field { high: 27, low: 14 };
+
+const THICKNESS: Field = Field { high: 13, low: 0 };
+
+const DEFAULT_GUARD: u32 = 400;
+
+const DEFAULT_THICKNESS: u32 = 300;
 
 // Of a word of a table.
 const DRAINAGE: Field = Field { high: 27, low: 20 };
@@ -76,7 +90,8 @@ const YEAR: Field = Field { high: 23, low: 17 };
 
 const TONNES: Field = Field { high: 16, low: 0 };
 
-// The figures of the project as a whole. The guard and the least thickness of peat are in mm.
+// The figures of the project as a whole, and whether a word states those of the site: the guard and the
+// least thickness of peat, in mm.
 #[derive(Clone, Copy, Debug, PartialEq, Eq)]
 pub struct Head {
     pub cells: u32,
@@ -85,6 +100,7 @@ pub struct Head {
     pub buffer: u32,
     pub warming: u32,
     pub methane: u32,
+    pub has_site: bool,
     pub guard: u32,
     pub thickness: u32,
 }
@@ -134,6 +150,14 @@ pub fn is_figure_word(w: u32) -> bool
         & BUFFER.is_within(w, 0, MOST_BUFFER)
         & WARMING.is_within(w, 1, MOST_WARMING)
         & METHANE.is_within(w, 0, MOST_METHANE)
+}
+
+// Whether the site's figures are valid, from its word or without one.
+#[tactic(auto, unfolding(crate::specs::Words::is_site_valid))]
+pub fn is_site_valid(h: Head) -> bool
+    ensures { result ≡ is_site_valid h }
+{
+    (h.guard <= MOST_GUARD) & (h.thickness <= MOST_THICKNESS)
 }
 
 // Whether w is valid as a word of a table.
@@ -195,10 +219,21 @@ pub fn is_above(before: u32, w: u32) -> bool
     term_order(before) < term_order(w)
 }
 
-// The figures of words 0 and 1. Head and cell are each read from two words, so that a `From` would take
-// a pair made for it.
-pub fn head_of(w: u32, v: u32) -> Head
-    ensures { result ≡ head_of w v }
+// A figure of the site: that of `x` where it is the site word, and otherwise what holds without one.
+fn site_figure(x: u32, figure: Field, default: u32) -> u32
+    ensures { result ≡ cond (is_kind 7 x) (bits x figure.high figure.low) default }
+{
+    if Kind::Site.is_of(x) {
+        figure.of(x)
+    } else {
+        default
+    }
+}
+
+// The figures of words 0 and 1, and of `x`, word 2, where it is the site word. Head and cell are each read
+// from several words, so that a `From` would take a tuple made for it.
+pub fn head_of(w: u32, v: u32, x: u32) -> Head
+    ensures { result ≡ head_of w v x }
 {
     Head {
         cells: CELLS.of(w),
@@ -207,8 +242,9 @@ pub fn head_of(w: u32, v: u32) -> Head
         buffer: BUFFER.of(v),
         warming: WARMING.of(v),
         methane: METHANE.of(v),
-        guard: 400,
-        thickness: 300,
+        has_site: Kind::Site.is_of(x),
+        guard: site_figure(x, GUARD, DEFAULT_GUARD),
+        thickness: site_figure(x, THICKNESS, DEFAULT_THICKNESS),
     }
 }
 

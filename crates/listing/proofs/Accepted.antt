@@ -10,12 +10,13 @@ use borrow.Author.Tests.{leb-true, eq-eqb, ne_eqb}
 use Rattle.words.specs.Answers.{Answer}
 use Rattle.words.proofs.Steps.{row_within}
 use Rattle.words.proofs.Answers.{need_accepted, need_all_accepted}
+use Rattle.words.proofs.Signed.{by_test}
 use Rattle.fields.specs.Words.{most_strata, most_horizon, year_terms, is_size_word, is_depth_word, is_area_word, is_above}
 use Rattle.fields.specs.Valid.{SizesWithin, TermValid}
 use Rattle.fields.specs.declared.Head.{Head}
 use Rattle.fields.specs.Fields.{year_of}
 use Rattle.fields.proofs.Valid.{sizes_within, head_valid, row_valid, cell_valid, term_valid, above_year, rank, rank_below, rank_above}
-use Rattle.listing.specs.Layout.{least_words, cell_words, most_term_words, head, cells, strata, horizon, offsets_of, offsets, row_at, cell_at}
+use Rattle.listing.specs.Layout.{least_words, site_at, cell_words, tables_at, latest_tables_at, most_term_words, head, cells, strata, horizon, offsets_of, offsets, row_at, cell_at}
 use Rattle.listing.specs.Check.{is_cell_word, words_checked, later_checked, checked}
 use Rattle.listing.specs.Accepted.{Contiguous, Accepted}
 use Rattle.listing.specs.declared.Offsets.{Offsets}
@@ -27,18 +28,27 @@ use Rattle.listing.specs.declared.Listing.{Listing}
 pub rows_most : {h : Head} → SizesWithin h → h.strata * h.horizon ≤ most_strata * most_horizon
 rows_most r = mul-le-mul {n₂ = most_strata} {m₂ = most_horizon} r.strata r.horizon
 
+-- the tables begin at word 2 or 3
+pub tables_least : (h : Head) → least_words ≤ tables_at h
+unfolding tables_at
+tables_least h = by_test (λ k. least_words ≤ k) h.has_site _ _ (λ e. omega arith) (λ e. omega arith)
+
+pub tables_most : (h : Head) → tables_at h ≤ latest_tables_at
+unfolding tables_at
+tables_most h = by_test (λ k. k ≤ latest_tables_at) h.has_site _ _ (λ e. omega arith) (λ e. omega arith)
+
 contiguous : {h : Head} → SizesWithin h → Contiguous h (offsets_of h)
 unfolding offsets_of
-contiguous {h} r = record { tables = refl; cells = refl; terms = refl; terms_at_most = omega (arith, rows_most r) }
+contiguous {h} r = record { tables = refl; cells = refl; terms = refl; terms_at_most = omega (arith, rows_most r, tables_most h) }
 
 -- where cells and terms begin, for any figures
 pub parts_follow : (h : Head) → (least_words ≤ (offsets_of h).cells) × ((offsets_of h).terms ≡ (offsets_of h).cells + cell_words * h.cells)
 unfolding offsets_of
-parts_follow h = (omega arith, refl)
+parts_follow h = (omega (arith, tables_least h), refl)
 
 -- of what `head` and `offsets_of` answered, h and s
 pub sizes_by : (l : List ℕ) (h : Head) → h ≡ head l → is_size_word (get_or l 0 0) ≡ true → SizesWithin h
-sizes_by l h e p = rw e (sizes_within (get_or l 0 0) (get_or l 1 0) p)
+sizes_by l h e p = rw e (sizes_within (get_or l 0 0) (get_or l 1 0) (get_or l site_at 0) p)
 
 pub contiguous_by : (h : Head) (s : Offsets) → s ≡ offsets_of h → SizesWithin h → Contiguous h s
 contiguous_by h s e r = rw e (contiguous r)
@@ -96,10 +106,11 @@ accepted l h =
     let h₂ = need_accepted _ _ _ _ h₁.1 in
     let h₃ = need_accepted _ _ _ _ h₂.1 in
     let h₄ = need_accepted _ _ _ _ h₃.1 in
-    let valid = head_valid (get_or l 0 0) (get_or l 1 0) h₂.0 h₃.0 in
-    let parts = contiguous (sizes_within (get_or l 0 0) (get_or l 1 0) h₂.0) in
+    let h_site = need_accepted _ _ _ _ h₄.1 in
+    let valid = head_valid (get_or l 0 0) (get_or l 1 0) (get_or l site_at 0) h₂.0 h₃.0 h_site.0 in
+    let parts = contiguous (sizes_within (get_or l 0 0) (get_or l 1 0) (get_or l site_at 0) h₂.0) in
     let long = leb-true _ _ h₄.0 in
-    let h₅ = need_all_accepted _ _ _ _ _ h₄.1 in
+    let h₅ = need_all_accepted _ _ _ _ _ h_site.1 in
     let h₆ = need_all_accepted _ _ _ _ _ h₅.1 in
     let h₇ = need_all_accepted _ _ _ _ _ h₆.1 in
     let h₈ = need_all_accepted _ _ _ _ _ h₇.1 in
@@ -116,6 +127,18 @@ accepted l h =
       rising = h₈.0;
       words_at_most = count_at_most l (horizon l) (offsets l).terms term h₈.0;
     }
+
+-- the words of the head stand before the cells
+pub head_before : (l : List ℕ) → Accepted l → site_at < (offsets l).cells
+head_before l a =
+    let h = a.head_valid in
+    let some : 1 ≤ strata l * horizon l = mul-le-mul {n₁ = 1} {m₁ = 1} h.strata.0 h.horizon.0 in
+    let parts = a.parts in
+    omega (arith, tables_least (head l))
+
+-- and it is read off them alone
+pub same_head : (l l' : List ℕ) → ((k : ℕ) → k ≤ site_at → get_or l' k 0 ≡ get_or l k 0) → head l' ≡ head l
+same_head l l' same = rw (same 0 (omega arith), same 1 (omega arith), same site_at (omega arith))
 
 -- of all years
 pub terms_at_most : (l : List ℕ) → Accepted l → length l ≤ (offsets l).terms + most_term_words

@@ -1,10 +1,10 @@
--- Document 01, "Where a call stops": the check of a listing, numbers 1 to 5.
+-- Document 01, "Where a call stops", with the site word of document 02: the check of a listing, numbers 1 to 5.
 use Rattle.std.specs.Prelude.{ℕ, ◌+◌, ◌-◌, ◌%◌, Bool, cond, List, leb, eqb, get_or, length}
 use Rattle.words.specs.Answers.{Answer, accepted, need, need_all}
 use Rattle.words.specs.Refusals.{too_few_words, head_word, listing_short, later_word, term_not_above}
-use Rattle.fields.specs.Words.{is_size_word, is_figure_word, is_table_word, is_depth_word, is_area_word, is_term_word, is_above}
+use Rattle.fields.specs.Words.{is_size_word, is_figure_word, is_site_valid, is_table_word, is_depth_word, is_area_word, is_term_word, is_above}
 use Rattle.fields.specs.declared.Head.{Head}
-use Rattle.listing.specs.Layout.{least_words, cell_words, head, offsets}
+use Rattle.listing.specs.Layout.{least_words, site_at, cell_words, head, offsets}
 use Rattle.listing.specs.declared.Offsets.{Offsets}
 
 -- "kind, zero bits or range" of the word at place k: of a table
@@ -26,7 +26,7 @@ term_word_valid l horizon k = is_term_word horizon (get_or l k 0)
 abbrev pub term_above : List ℕ → ℕ → Bool
 term_above l k = is_above (get_or l (k - 1) 0) (get_or l k 0)
 
--- numbers 4 and 5, the words after the head: every 4 is tried before any 5
+-- numbers 4 and 5, the words from the tables on: every 4 is tried before any 5
 unfoldable pub words_checked : List ℕ → Head → Offsets → Answer
 words_checked l h s =
     need_all later_word (table_word_valid l) s.tables s.cells
@@ -35,9 +35,13 @@ words_checked l h s =
     (need_all term_not_above (term_above l) (s.terms + 1) (length l)
     (accepted 0))))
 
--- number 3 before them: fewer words than strata × horizon + 2 × cells + 2, so that the terms would begin behind the end; place its length
+-- number 3 before them: fewer words than strata × horizon + 2 × cells + 2, or + 3 with the site word, so that the terms would begin behind the
+-- end; place its length. Then number 4 for the site word
 unfoldable pub later_checked : List ℕ → Head → Offsets → Answer
-later_checked l h s = need (leb s.terms (length l)) listing_short (length l) (words_checked l h s)
+later_checked l h s =
+    need (leb s.terms (length l)) listing_short (length l)
+    (need (is_site_valid h) later_word site_at
+    (words_checked l h s))
 
 -- the answer for any list of words: 1, fewer than 2; 2, word 0 or 1 by kind, zero bits or range; then the rest
 unfoldable pub checked : List ℕ → Answer

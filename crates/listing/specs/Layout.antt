@@ -1,5 +1,5 @@
--- Document 01, "Project listing": where the words of a listing l are. Check.antt names words 0 and 1 again, to refuse them at their places.
-use Rattle.std.specs.Prelude.{ℕ, ◌+◌, ◌-◌, ◌*◌, List, get_or}
+-- Document 01, "Project listing", with the site word of document 02: where the words of a listing l are. Check.antt names words 0 and 1 again, to refuse them at their places.
+use Rattle.std.specs.Prelude.{ℕ, ◌+◌, ◌-◌, ◌*◌, cond, List, get_or}
 use Rattle.fields.specs.Fields.{head_of, row_of, cell_of}
 use Rattle.fields.specs.Words.{most_cells, most_strata, most_horizon, year_terms}
 use Rattle.fields.specs.declared.Head.{Head}
@@ -7,9 +7,13 @@ use Rattle.fields.specs.declared.Row.{Row}
 use Rattle.fields.specs.declared.Cell.{Cell}
 use Rattle.listing.specs.declared.Offsets.{Offsets}
 
--- words 0 and 1, and their figures by name
+-- the place of the site word, in a listing that carries it
+abbrev pub site_at : ℕ
+site_at = 2
+
+-- the words of the head, and their figures by name. A listing that ends before word 2 has no site word, since 0 is of no kind
 abbrev pub head : List ℕ → Head
-head l = head_of (get_or l 0 0) (get_or l 1 0)
+head l = head_of (get_or l 0 0) (get_or l 1 0) (get_or l site_at 0)
 
 abbrev pub cells : List ℕ → ℕ
 cells l = (head l).cells
@@ -31,12 +35,12 @@ least_words = 2
 abbrev pub cell_words : ℕ
 cell_words = 2
 
--- where the tables begin, and the latest such place
-abbrev pub tables_at : Head → ℕ
-tables_at h = 2
+-- where the tables begin, behind the site word or at its place, and the latest such place
+unfoldable pub tables_at : Head → ℕ
+tables_at h = cond h.has_site (site_at + 1) site_at
 
 abbrev pub latest_tables_at : ℕ
-latest_tables_at = 2
+latest_tables_at = site_at + 1
 
 -- the tables have for each stratum one word for each year of age; then come the cells; then the terms
 unfoldable pub offsets_of : Head → Offsets

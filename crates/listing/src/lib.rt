@@ -5,7 +5,7 @@ ghost use Rattle.std.specs.Prelude.{◌≡◌, true, ◌+◌, ◌*◌, ◌<◌, 
 ghost use Rattle.words.specs.Search.{first_invalid};
 ghost use Rattle.words.specs.Answers.{outcome};
 ghost use Rattle.fields.specs.Valid.{SizesWithin};
-ghost use Rattle.listing.specs.Layout.{least_words, cell_words, head, cells, strata, horizon, offsets_of, row_at, row, cell_at, cell};
+ghost use Rattle.listing.specs.Layout.{least_words, cell_words, head, cells, strata, horizon, tables_at, offsets_of, row_at, row, cell_at, cell};
 ghost use Rattle.listing.specs.Check.{is_cell_word, table_word_valid, cell_word_valid, term_word_valid, term_above, words_checked, later_checked, checked};
 ghost use Rattle.listing.specs.Accepted.{Contiguous, Accepted};
 ghost use Rattle.std.proofs.Props.{props};
@@ -17,16 +17,19 @@ use words::{KIND, Reason, Refusal, first_invalid, need};
 // The words that every listing has.
 const LEAST_WORDS: usize = 2;
 
-// Where the tables begin.
-const TABLES_AT: usize = 2;
+// The place of the site word, in a listing that carries it.
+const SITE_AT: usize = 2;
+
+// Where the tables begin at the latest: behind the site word.
+const LATEST_TABLES_AT: usize = SITE_AT + 1;
 
 const CELL_WORDS: usize = 2;
 
 // The terms that a year may have, each once.
 const YEAR_TERMS: usize = 7;
 
-// The words of the longest listing: 2,814.
-pub const MOST_WORDS: usize = TABLES_AT
+// The words of the longest listing: 2,815.
+pub const MOST_WORDS: usize = LATEST_TABLES_AT
     + (MOST_STRATA * MOST_HORIZON) as usize
     + CELL_WORDS * MOST_CELLS as usize
     + YEAR_TERMS * MOST_HORIZON as usize;
@@ -192,12 +195,21 @@ fn first_term_not_above(listing: &[u32], start: usize) -> usize
     )
 }
 
-// The head of a listing.
+// The head of a listing; one that ends before word 2 has no site word, since 0 is of no kind.
 pub fn head(listing: &[u32]) -> Head
     requires { least_words ≤ length listing.now }
     ensures { result ≡ head listing.now }
 {
-    fields::head_of(listing[0], listing[1])
+    let site = listing.get(SITE_AT).copied().unwrap_or(0);
+    fields::head_of(listing[0], listing[1], site)
+}
+
+// Where the tables begin.
+#[tactic(auto, unfolding(crate::specs::Layout::tables_at))]
+fn tables_at(h: Head) -> usize
+    ensures { result ≡ tables_at h }
+{
+    if h.has_site { SITE_AT + 1 } else { SITE_AT }
 }
 
 // Where the parts begin in a listing of these sizes.
@@ -205,9 +217,10 @@ pub fn offsets_of(h: Head) -> Offsets
     requires { SizesWithin h }
     ensures { result ≡ offsets_of h }
 {
-    let cells = TABLES_AT + (h.strata * h.horizon) as usize;
+    let tables = tables_at(h);
+    let cells = tables + (h.strata * h.horizon) as usize;
     Offsets {
-        tables: TABLES_AT,
+        tables,
         cells,
         terms: cells + CELL_WORDS * h.cells as usize,
     }
@@ -258,7 +271,7 @@ impl Listing<'_> {
     }
 }
 
-// Numbers 4 and 5, for the words after the head, whose parts begin at `s`: a search that came to its end
+// Numbers 4 and 5, for the words from the tables on, whose parts begin at `s`: a search that came to its end
 // has found nothing.
 fn check_words(listing: &[u32], h: Head, s: Offsets) -> Result<(), Refusal>
     requires { Contiguous h s × (s.terms ≤ length listing.now) }
@@ -283,13 +296,14 @@ fn check_words(listing: &[u32], h: Head, s: Offsets) -> Result<(), Refusal>
     need(listing.len() <= later, Reason::TermNotAbove, later)
 }
 
-// Number 3, and then the words.
+// Number 3, then the site's figures, and then the words.
 fn check_later(listing: &[u32], h: Head, s: Offsets) -> Result<(), Refusal>
     requires { Contiguous h s }
     ensures { outcome result ≡ later_checked listing.now h s }
 {
     let long_enough = s.terms <= listing.len();
     need(long_enough, Reason::ListingShort, listing.len())?;
+    need(fields::is_site_valid(h), Reason::LaterWord, SITE_AT)?;
     check_words(listing, h, s)
 }
 

@@ -83,11 +83,12 @@ module _ {n : ℕ} {o : Order n} {l l' : List ℕ} (e : ListingMoved o l l') whe
   later_alike =
       rw e.length_is
       (need_alike _ _ _ _ _ _
+      (need_alike _ _ _ _ _ _
       (every_tested _ (table_word_valid l) (table_word_valid l') _ _ _ _ (λ k lo hi. rw (moved_before e.cells_moved k hi))
       (every_alike _ _ _ _ _ _ _ (cells_valid_lem e (head l).strata (horizon l)) (cells_back (head l).strata (horizon l))
       (every_tested _ (term_word_valid l (horizon l)) (term_word_valid l' (horizon l)) _ _ _ _ (λ k lo hi. rw (e.terms_same k lo))
       (every_tested _ (term_above l) (term_above l') _ _ _ _ (λ k lo hi. rw (e.terms_same k (omega arith), e.terms_same (k - 1) (omega arith)))
-      (alike_same _))))))
+      (alike_same _)))))))
 
   pub checked_alike : ButForPlace (checked l) (checked l')
   unfolding checked

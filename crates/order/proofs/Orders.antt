@@ -1,6 +1,6 @@
 -- Two cells that change places are an order; for every valid listing there is one with its cells in another order; and lines in another
 -- order come to the same. Assumes nothing.
-use mathlib.Core.Path.{◌≡◌, refl, ap, ap₂, ◌∙◌}
+use mathlib.Core.Path.{◌≡◌, refl, ap, ◌∙◌}
 use mathlib.Core.List.{List, [], ◌∷◌}
 use Prim.Native.Nat.{ℕ, zero, suc, ◌+◌, ◌*◌, ◌≤◌, ◌<◌}
 use native.Mathlib.Nat.{zero-add}
@@ -11,9 +11,8 @@ use borrow.Author.Tests.{eqb-true, eqb-false}
 use Rattle.words.specs.Blocks.{filled}
 use Rattle.words.proofs.Signed.{by_test}
 use Rattle.words.proofs.Blocks.{length_filled, filled_before, filled_word, filled_behind}
-use Rattle.fields.specs.Fields.{head_of}
 use Rattle.listing.specs.Layout.{cell_words, offsets, cell_at}
-use Rattle.listing.proofs.Accepted.{accepted}
+use Rattle.listing.proofs.Accepted.{accepted, head_before, same_head}
 use Rattle.book.specs.Layout.{line_words, payload, line_at}
 use Rattle.order.specs.Order.{SameTotals, EveryListing, origin, Exchanges}
 use Rattle.order.proofs.Moved.{same_sum}
@@ -50,7 +49,7 @@ every_listing n o l count valid =
       listing = filled cell_words l start f n;
       is = record {
         count = count;
-        head_is = ap₂ head_of (before 0 (omega arith)) (before 1 (omega arith));
+        head_is = same_head _ _ (λ k le. before k (omega (arith, head_before l (accepted l valid))));
         length_is = length_filled cell_words l start f sized capacity n (omega arith);
         cells_moved = record {
           before = λ k lt. rw zero-add (before k lt);

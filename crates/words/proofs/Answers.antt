@@ -43,12 +43,7 @@ flag_false b ok e f = sym e ∙ f
 pub flag_true : (b ok : Bool) → b ≡ ok → b ≡ true → ok ≡ true
 flag_true b ok e f = sym e ∙ f
 
--- a search that found an invalid place, and one that found none; `place` is what the program's search gave
-pub found : (n place p end : ℕ) (next v : Answer) → place ≡ p → place < end → v ≡ refused n place → v ≡ need_none n p end next
-unfolding need_none
-found n place p end next v e h q =
-    q ∙ ap (λ (b : Bool). cond b (refused n place) next) (sym (lt-ltb place end h)) ∙ ap (λ (x : ℕ). cond (ltb x end) (refused n x) next) e
-
+-- a search that found none; `place` is what the program's search gave
 pub found_none : (n place p end : ℕ) (next v : Answer) → place ≡ p → end ≤ place → v ≡ next → v ≡ need_none n p end next
 unfolding need_none
 found_none n place p end next v e h q =
@@ -89,7 +84,7 @@ pub found_by : (n place p end : ℕ) (next v : Answer) → place ≡ p → v ≡
 found_by n place p end next v e q = q ∙ need_found n place end next ∙ ap (λ (x : ℕ). need_none n x end next) e
 
 -- what a return's answer is found from
-pub ruleset answers = (refused_by, need_failed, need_next, flag_false, flag_true, found, found_none, lt-leb, le-leb, lt-ltb, le-ltb)
+pub ruleset answers = (refused_by, need_failed, need_next, flag_false, flag_true, found_none, lt-leb, le-leb, lt-ltb, le-ltb)
 
 -- ---- backwards: an answer that is accepted failed no test
 

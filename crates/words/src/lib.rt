@@ -71,6 +71,7 @@ pub enum Kind {
     Depth = 4,
     Area = 5,
     Term = 6,
+    Site = 7,
     // Of a book.
     Year = 8,
     Issued = 9,

@@ -1,10 +1,11 @@
--- Document 01, "Worked on paper": the definitions that the contracts cite, applied to the paper's figures, in its order. One table, and one
--- theorem that every row agrees; proofs/Agrees.antt proves it.
+-- Document 01, "Worked on paper", and the figures of the change requests: the definitions that the contracts cite, applied to the papers'
+-- figures, in their order. One table, and one theorem that every row agrees; proofs/Agrees.antt proves it.
 use Rattle.std.specs.Prelude.{◌≡◌, false, List, [], ◌∷◌, ◌++◌, map, ℕ, zero, suc, take}
 use Rattle.std.specs.Float.{binary32}
 use Rattle.std.specs.Float.Ieee.{of_bits}
 use Rattle.fields.specs.declared.Cell.{Cell}
 use Rattle.listing.specs.Layout.{head, guard, row as table}
+use Rattle.listing.specs.Check.{checked}
 use Rattle.year.specs.Year.{burned_by, oxidised_by, emission, year_loss}
 use Rattle.book.specs.Layout.{oxidised_line, burned_line, kg_line}
 use Rattle.ledger.specs.Calls.{open_effect, close_effect, issue_effect, statement_answer}
@@ -54,6 +55,30 @@ after_one = 0x80000001 ∷ 0x90000229 ∷ 0xA0000001 ∷ 0xB000002D ∷ 0xC00001
 abbrev pub after_two : List ℕ
 after_two = 0x80000002 ∷ 0x9000026C ∷ 0xA0000001 ∷ 0xB000005A ∷ 0xC000012C ∷ []
 
+-- the first listing with guard 500 and least thickness 300 in a site word, and its books after each of its years
+abbrev pub with_site : List ℕ
+with_site = 0x10010102 ∷ 0x2014190C ∷ 0x707D012C ∷ 0x3460B554 ∷ 0x3460B400 ∷ 0x400107D0 ∷ 0x527101F4 ∷ []
+
+abbrev pub site_after_one : List ℕ
+site_after_one = 0x80000001 ∷ 0x90000187 ∷ 0xA0000001 ∷ 0xB000002D ∷ 0xC00000C8 ∷ []
+
+abbrev pub site_after_two : List ℕ
+site_after_two = 0x80000002 ∷ 0x900001C8 ∷ 0xA0000001 ∷ 0xB000005A ∷ 0xC00000C8 ∷ []
+
+-- what is refused: that listing with least thickness 2,001; the first listing with its first row's word of kind 7, and with its word 1 so
+abbrev pub thickness_2001 : List ℕ
+thickness_2001 = 0x10010102 ∷ 0x2014190C ∷ 0x707D07D1 ∷ 0x3460B554 ∷ 0x3460B400 ∷ 0x400107D0 ∷ 0x527101F4 ∷ []
+
+abbrev pub row_of_kind_7 : List ℕ
+row_of_kind_7 = 0x10010102 ∷ 0x2014190C ∷ 0x7460B554 ∷ 0x3460B400 ∷ 0x400107D0 ∷ 0x527101F4 ∷ []
+
+abbrev pub word_1_of_kind_7 : List ℕ
+word_1_of_kind_7 = 0x10010102 ∷ 0x7014190C ∷ 0x3460B554 ∷ 0x3460B400 ∷ 0x400107D0 ∷ 0x527101F4 ∷ []
+
+-- the number and the place of a refused listing
+abbrev pub refusal : List ℕ → List ℕ
+refusal l = (checked l).number ∷ (checked l).place ∷ []
+
 -- a slice lent full of zeros
 abbrev pub zeros : ℕ → List ℕ
 zeros zero = []
@@ -94,6 +119,12 @@ rows =
     ∷ row (factor 22500 1000 ∷ []) (10000 ∷ [])
     ∷ row (factor 22501 1000 ∷ []) (8499 ∷ [])
     ∷ row (factor 40000 1000 ∷ []) (8000 ∷ [])
+    ∷ row (year with_site opened) (45 ∷ 200 ∷ 489166 ∷ 391 ∷ site_after_one)
+    ∷ row (year with_site site_after_one) (45 ∷ 0 ∷ 82500 ∷ 65 ∷ site_after_two)
+    ∷ row ((statement_answer with_site site_after_two 0).figures.remaining ∷ []) (1710 ∷ [])
+    ∷ row (refusal thickness_2001) (4 ∷ 2 ∷ [])
+    ∷ row (refusal row_of_kind_7) (3 ∷ 6 ∷ [])
+    ∷ row (refusal word_1_of_kind_7) (2 ∷ 1 ∷ [])
     ∷ []
 
 -- the theorem

@@ -1,6 +1,6 @@
-// Document 01's worked figures and refusals, run through the calls. Each line says what was asked,
-// and then the number, the place and the value of the answer; crates/worked/stdout has what document
-// 01 gives.
+// The papers' worked figures and refusals, run through the calls. Each line says what was asked, and
+// then the number, the place and the value of the answer; crates/worked/stdout has what the papers
+// give.
 #![tactic(auto)]
 
 use book::LINE_WORDS;
@@ -286,6 +286,48 @@ fn neighbours(rt: &impl Print) {
     second_cell_year(rt, &l, &mut b, &mut x);
 }
 
+// The worked listing with a site word as word 2, guard 500 and least thickness 300: two years.
+fn site(rt: &impl Print) {
+    let mut l = [
+        0x1001_0102u32,
+        0x2014_190c,
+        0x707d_012c,
+        0x3460_b554,
+        0x3460_b400,
+        0x4001_07d0,
+        0x5271_01f4,
+    ];
+    let mut b = [0u32; 5];
+    let mut x = [0u32; 3];
+    print_outcome(rt, "open with a site word", ledger::open(&l, &mut b));
+    year(rt, &l, &mut b, &mut x, 0);
+    year(rt, &l, &mut b, &mut x, 0);
+    print_answer(
+        rt,
+        "left",
+        ledger::statement(&l, &b[..], 0),
+        |figures| u64::from(figures.remaining),
+    );
+    l[2] = 0x707d_07d1;
+    print_check(rt, "least thickness 2,001", &l);
+}
+
+// The worked listing with a word of kind 7 for its first row, and then for its word 1.
+fn misplaced_site(rt: &impl Print) {
+    let mut l = [
+        0x1001_0102u32,
+        0x2014_190c,
+        0x7460_b554,
+        0x3460_b400,
+        0x4001_07d0,
+        0x5271_01f4,
+    ];
+    print_check(rt, "first row of kind 7", &l);
+    l[1] = 0x7014_190c;
+    l[2] = 0x3460_b554;
+    print_check(rt, "word 1 of kind 7", &l);
+}
+
 fn main(rt: HostRuntime) {
     worked(&rt);
     neighbours(&rt);
@@ -293,4 +335,6 @@ fn main(rt: HostRuntime) {
     terms(&rt);
     readings(&rt);
     discounts(&rt);
+    site(&rt);
+    misplaced_site(&rt);
 }

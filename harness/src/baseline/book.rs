@@ -36,7 +36,7 @@ pub fn check(listing: &Listing, book: &Book) -> Result<(), Answer> {
     let valid = pairs.fold(head, |all, (&[depth, _], &[plan, oxidised, burned])| {
         all & plan_is_valid(listing, plan)
             & oxidised_is_valid(oxidised)
-            & burned_is_valid(depth, oxidised, burned)
+            & burned_is_valid(listing, depth, oxidised, burned)
     });
     if !valid {
         return Err(first_refusal(listing, book));
@@ -61,8 +61,9 @@ fn oxidised_is_valid(word: u32) -> bool {
 }
 
 /// A bad sum counts here.
-fn burned_is_valid(depth: u32, oxidised: u32, burned: u32) -> bool {
-    (burned >> 28 == 12) & (bits(oxidised, 27, 0) + bits(burned, 27, 0) <= most_loss(depth))
+fn burned_is_valid(listing: &Listing, depth: u32, oxidised: u32, burned: u32) -> bool {
+    let lost = bits(oxidised, 27, 0) + bits(burned, 27, 0);
+    (burned >> 28 == 12) & (lost <= most_loss(listing.thickness, depth))
 }
 
 /// The first invalid word of a book that has one.
@@ -79,7 +80,7 @@ fn first_refusal(listing: &Listing, book: &Book) -> Answer {
         [
             plan_is_valid(listing, plan),
             oxidised_is_valid(oxidised),
-            burned_is_valid(depth, oxidised, burned),
+            burned_is_valid(listing, depth, oxidised, burned),
         ]
     });
     refusal(8, 2 + words.take_while(|&valid| valid).count())

@@ -1,6 +1,6 @@
 //! Closing a year, in a single pass over the cells behind the checks.
 use super::listing::Listing;
-use super::peat::{emission, is_peat, loss};
+use super::peat::{emission, loss};
 use super::{bits, book, refusal, Outcome};
 
 pub fn close(listing: &[u32], book: &mut [u32], lines: &mut [u32]) -> Outcome {
@@ -33,12 +33,16 @@ fn close_cell(
 ) -> [u32; 3] {
     let (entered, plan_year) = (bits(depth, 15, 0), bits(*plan, 7, 0));
     let withdrawn = bits(*plan, 8, 8) == 1;
-    if withdrawn || plan_year == 0 || year < plan_year || !is_peat(entered) {
+    if withdrawn || plan_year == 0 || year < plan_year || entered < listing.thickness {
         return [13 << 28, 14 << 28, 15 << 28];
     }
     let row = (bits(depth, 27, 24) * listing.horizon + year - plan_year) as usize;
     let (oxidised, burned) = (bits(*oxidised_word, 27, 0), bits(*burned_word, 27, 0));
-    let (more_oxidised, more_burned) = loss(listing.tables[row], entered - oxidised - burned);
+    let (more_oxidised, more_burned) = loss(
+        listing.guard,
+        listing.tables[row],
+        entered - oxidised - burned,
+    );
     let before = emission(listing.methane_factor, area, oxidised, burned);
     let after = emission(
         listing.methane_factor,

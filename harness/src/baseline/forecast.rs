@@ -1,6 +1,6 @@
 //! The forecast: each cell runs through its years by itself, its kg to date carried from year to year.
 use super::listing::Listing;
-use super::peat::{emission, is_peat, loss};
+use super::peat::{emission, loss};
 use super::{bits, book, refusal, Outcome};
 
 pub fn forecast(listing: &[u32], book: &mut [u32], output: &mut [u64]) -> Outcome {
@@ -29,12 +29,12 @@ pub fn forecast(listing: &[u32], book: &mut [u32], output: &mut [u64]) -> Outcom
 fn run_cell(listing: &Listing, [depth, area]: [u32; 2], output: &mut [u64]) -> (u32, u32) {
     let (plan_year, entered) = (bits(depth, 23, 16) as usize, bits(depth, 15, 0));
     let (mut oxidised, mut burned, mut before) = (0, 0, 0);
-    if plan_year == 0 || !is_peat(entered) {
+    if plan_year == 0 || entered < listing.thickness {
         return (oxidised, burned);
     }
     let table = &listing.tables[bits(depth, 27, 24) as usize * output.len()..];
     for (&row, kg) in table.iter().zip(&mut output[plan_year - 1..]) {
-        let (more_oxidised, more_burned) = loss(row, entered - oxidised - burned);
+        let (more_oxidised, more_burned) = loss(listing.guard, row, entered - oxidised - burned);
         oxidised += more_oxidised;
         burned += more_burned;
         let after = emission(listing.methane_factor, area, oxidised, burned);

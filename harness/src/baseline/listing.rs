@@ -9,6 +9,11 @@ pub struct Listing<'a> {
     pub buffer: u32,
     /// 4 × G × e, the methane factor of burned peat.
     pub methane_factor: u64,
+    /// The guard and the least thickness of peat in mm, from word 2 where it is of kind 7.
+    pub guard: u32,
+    pub thickness: u32,
+    /// Where the tables begin: 2, or 3 behind such a word.
+    first_row: usize,
     /// Each stratum's words, one for each year of age.
     pub tables: &'a [u32],
     pub cells: &'a [[u32; 2]],
@@ -30,6 +35,13 @@ impl<'a> Listing<'a> {
         }
         let (strata, horizon) = (bits(size, 15, 8), bits(size, 7, 0));
         let cells = 2 * bits(size, 27, 16) as usize;
+        let (guard, thickness, rest) = match rest {
+            &[site, ref rest @ ..] if site >> 28 == 7 => {
+                (bits(site, 27, 14), bits(site, 13, 0), rest)
+            }
+            _ => (400, 300, rest),
+        };
+        let first_row = words.len() - rest.len();
         let Some((tables, rest)) = rest.split_at_checked((strata * horizon) as usize) else {
             return Err(refusal(3, words.len()));
         };
@@ -41,6 +53,9 @@ impl<'a> Listing<'a> {
             horizon,
             buffer: bits(figures, 22, 16),
             methane_factor: u64::from(4 * bits(figures, 15, 8) * bits(figures, 7, 0)),
+            guard,
+            thickness,
+            first_row,
             tables,
             cells: cells.as_chunks().0,
             terms,
@@ -52,10 +67,19 @@ impl<'a> Listing<'a> {
     pub fn read(words: &'a [u32]) -> Result<Self, Answer> {
         let listing = Listing::parts(words)?;
         // Every part is passed through to its end, without a branch for each word: most listings are valid.
-        if !(listing.tables_valid() & listing.cells_valid() & listing.terms_valid()) {
+        if !(listing.site_is_valid()
+            & listing.tables_valid()
+            & listing.cells_valid()
+            & listing.terms_valid())
+        {
             return Err(listing.first_refusal());
         }
         Ok(listing)
+    }
+
+    /// Without a site word they are in range.
+    fn site_is_valid(&self) -> bool {
+        (self.guard <= 2_000) & (self.thickness <= 2_000)
     }
 
     /// What in each word is not of kind 3, joined and tested once.
@@ -83,10 +107,13 @@ impl<'a> Listing<'a> {
     /// The first invalid word of a listing that has one: every 4 comes before any 5.
     #[cold]
     fn first_refusal(&self) -> Answer {
-        let cells = 2 + self.tables.len();
+        if !self.site_is_valid() {
+            return refusal(4, 2);
+        }
+        let cells = self.first_row + self.tables.len();
         let terms = cells + 2 * self.cells.len();
         if let Some(i) = self.tables.iter().position(|&word| !row_is_valid(word)) {
-            return refusal(4, 2 + i);
+            return refusal(4, self.first_row + i);
         }
         for (i, &[depth, area]) in self.cells.iter().enumerate() {
             if !self.depth_is_valid(depth) {

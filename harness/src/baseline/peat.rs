@@ -1,33 +1,23 @@
 //! A cell's peat: what a year takes of it, and what that emits.
 use super::bits;
 
-/// The depth in mm from which a cell is peat.
-const LEAST_THICKNESS: u32 = 300;
-
-/// Peat that a fire leaves dry above the water, in mm.
-const GUARD: u32 = 400;
-
-pub fn is_peat(entered: u32) -> bool {
-    entered >= LEAST_THICKNESS
-}
-
-/// The most that can be lost by a cell with this first word.
-pub fn most_loss(depth: u32) -> u32 {
+/// The most that can be lost by a cell with this first word, where peat is of this thickness at least.
+pub fn most_loss(thickness: u32, depth: u32) -> u32 {
     let entered = bits(depth, 15, 0);
-    if is_peat(entered) {
-        entered
-    } else {
+    if entered < thickness {
         0
+    } else {
+        entered
     }
 }
 
-/// Oxidised and burned mm of a year: the row's limits, and no more than remains.
+/// Oxidised and burned mm of a year: the row's limits, and no more than remains; a fire leaves the guard dry.
 #[inline(always)]
-pub fn loss(row: u32, remaining: u32) -> (u32, u32) {
+pub fn loss(guard: u32, row: u32, remaining: u32) -> (u32, u32) {
     let drainage = 10 * bits(row, 27, 20);
     let burned = bits(row, 9, 0)
         .min(remaining)
-        .min(drainage.saturating_sub(GUARD));
+        .min(drainage.saturating_sub(guard));
     // What burned is not above either, so nothing goes below zero.
     let oxidised = bits(row, 19, 10)
         .min(remaining - burned)

@@ -1,6 +1,6 @@
 //! Writes samples/: NAME.bin as peatrun reads it, NAME.txt in plain words, NAME.expected as it must print.
-use harness::sample::{self, NEGATIVE_TERM_TEXT, WORKED_TEXT};
-use harness::site::{Cell, Content, Row, Site, YearlyTerm};
+use harness::sample::{self, NEGATIVE_TERM_TEXT, SITE_WORD_TEXT, WORKED_TEXT};
+use harness::site::{Cell, Content, Row, Site, SiteWord, YearlyTerm};
 use harness::{generate, reference};
 use std::fs;
 
@@ -11,7 +11,7 @@ struct Sample {
     bytes: Vec<u8>,
     /// The companion's words, each with what it contains.
     words: String,
-    /// Document 01's own text, where it gives one; else the reference's.
+    /// The papers' own text, where they give one; else the reference's.
     expected: Option<&'static str>,
 }
 
@@ -93,6 +93,7 @@ fn worked() -> Site {
         buffer: 20,
         warming: 25,
         methane: 12,
+        site_word: None,
         tables: vec![vec![row(70, 45, 340), row(70, 45, 0)]],
         cells: vec![hectare(0, 1, 2000, 500)],
         terms: vec![],
@@ -105,6 +106,7 @@ fn three_cells() -> Site {
         buffer: 20,
         warming: 25,
         methane: 12,
+        site_word: None,
         tables: vec![
             vec![row(80, 50, 300), row(80, 40, 0), row(80, 40, 0)],
             vec![row(50, 40, 200), row(50, 30, 0), row(50, 30, 0)],
@@ -123,6 +125,27 @@ fn three_cells() -> Site {
     }
 }
 
+/// A country that keeps 250 mm dry and counts peat from 200 mm on.
+fn thin_peat() -> Site {
+    Site {
+        horizon: 2,
+        buffer: 15,
+        warming: 28,
+        methane: 9,
+        site_word: Some(SiteWord {
+            guard: 250,
+            thickness: 200,
+        }),
+        tables: vec![vec![row(40, 30, 200), row(40, 30, 100)]],
+        cells: vec![
+            hectare(0, 1, 200, 550),
+            hectare(0, 1, 199, 550),
+            hectare(0, 2, 1500, 550),
+        ],
+        terms: vec![],
+    }
+}
+
 /// Each stratum has figures of its own, so that a row of another one shows at once.
 fn unsorted() -> Site {
     let table = |stratum: u32| {
@@ -135,6 +158,7 @@ fn unsorted() -> Site {
         buffer: 10,
         warming: 28,
         methane: 9,
+        site_word: None,
         tables: (0..4).map(table).collect(),
         cells: vec![
             hectare(2, 1, 4500, 600),
@@ -157,11 +181,19 @@ fn unsorted() -> Site {
 fn accepted() -> Vec<Sample> {
     let mut negative = worked();
     negative.terms.push(term(2, 5, -100));
+    let mut site_word = worked();
+    site_word.site_word = Some(SiteWord {
+        guard: 500,
+        thickness: 300,
+    });
     let worked = worked();
     vec![
         Sample::of("worked", WORKED_ABOUT, &worked.contents()).expecting(WORKED_TEXT),
         Sample::of("worked-negative-term", NEGATIVE_ABOUT, &negative.contents())
             .expecting(NEGATIVE_TERM_TEXT),
+        Sample::of("worked-site-word", SITE_WORD_ABOUT, &site_word.contents())
+            .expecting(SITE_WORD_TEXT),
+        Sample::of("thin-peat", THIN_PEAT_ABOUT, &thin_peat().contents()),
         Sample::of("three-cells", THREE_CELLS_ABOUT, &three_cells().contents()),
         Sample::of("unsorted", UNSORTED_ABOUT, &unsorted().contents()),
         Sample::of("largest", LARGEST_ABOUT, &generate::largest().contents()),
@@ -175,6 +207,11 @@ fn refused() -> Vec<Sample> {
     no_warming.warming = 0;
     let mut late = worked.clone();
     late.cells[0].conversion = 3;
+    let mut thick = worked.clone();
+    thick.site_word = Some(SiteWord {
+        guard: 500,
+        thickness: 2_001,
+    });
     let mut falling = worked.clone();
     falling.terms = vec![term(1, 3, 40), term(2, 4, 25), term(2, 1, 10)];
     vec![
@@ -182,6 +219,7 @@ fn refused() -> Vec<Sample> {
         Sample::of("refused-2", REFUSED_2, &no_warming.contents()),
         Sample::of("refused-3", REFUSED_3, &worked.contents()[..5]),
         Sample::of("refused-4", REFUSED_4, &late.contents()),
+        Sample::of("refused-4-site-word", REFUSED_4_SITE, &thick.contents()),
         Sample::of("refused-5", REFUSED_5, &falling.contents()),
     ]
 }
@@ -211,6 +249,15 @@ const NEGATIVE_ABOUT: &str = "\
 The worked listing with a term 5 of -100 tonnes in year 2.
 The balance after year 2 is below what year 1 paid, so the second issue pays 0.";
 
+const SITE_WORD_ABOUT: &str = "\
+The worked listing with a site word as word 2: guard 500 mm, least thickness of peat 300 mm.
+Year 1 burns 200 of the 340 mm that could burn, since 500 of the 700 mm above the water stay.";
+
+const THIN_PEAT_ABOUT: &str = "\
+Three hectare cells of a site with a guard of 250 mm and a least thickness of peat of 200 mm; both stand in word 2.
+Cell 0 has just the least thickness, and burns 150 mm in year 1, the drainage of 400 mm less the guard.
+Cell 1 is 1 mm short of it, and loses nothing. Cell 2 is converted in year 2.";
+
 const THREE_CELLS_ABOUT: &str = "\
 A small site: three hectare cells of two strata, not sorted by stratum.
 Stratum 0 lies at the canal and is drained to 80 cm, stratum 1 behind it to 50 cm.
@@ -225,7 +272,7 @@ Cell 3 is never converted (conversion year 0).
 Cell 4 has just the least thickness of peat, cell 5 is 1 mm short of it.";
 
 const LARGEST_ABOUT: &str = "\
-The longest listing there is: 256 cells, 16 strata, 100 years and all 700 yearly terms, 2,814 words, 11,256 bytes.
+The longest listing there is: 256 cells, 16 strata, 100 years, the site word and all 700 yearly terms, 2,815 words, 11,260 bytes.
 Its figures are made up; the cells are not sorted by stratum.";
 
 const REFUSED_1: &str = "\
@@ -241,6 +288,9 @@ The cell's second word, area and carbon density, is missing.";
 const REFUSED_4: &str = "\
 Refused by number 4 at place 4: the cell's conversion year is 3, and the horizon is 2.";
 
+const REFUSED_4_SITE: &str = "\
+Refused by number 4 at place 2: the site word's least thickness is 2,001 mm, and the most is 2,000.";
+
 const REFUSED_5: &str = "\
 Refused by number 5 at place 8: terms rise by year, then by term, and term 1 of year 2 comes after its term 4.";
 
@@ -248,7 +298,7 @@ const EMPTY_ABOUT: &str = "\
 No bytes at all: a listing of no words, refused by number 1 at place 0.";
 
 const TOO_LONG_ABOUT: &str = "\
-11,257 bytes, the listing of largest.bin and one byte more: peatrun takes 11,256 at most.
+11,261 bytes, the listing of largest.bin and one byte more: peatrun takes 11,260 at most.
 It says so before it counts whole words. There are no words to show here.";
 
 const ODD_ABOUT: &str = "\

@@ -89,7 +89,8 @@ fn oxidised_word_is_valid(book: &[u32], cell: i128) -> bool {
     kind(at(book, cell_place(cell) + 1)) == 11
 }
 
-/// Kind 12, and "O + B is at most the entered depth, and 0 for a cell below 300 mm".
+/// Kind 12, and "O + B is at most the entered depth, and 0 for a cell below 300 mm". "The book's
+/// rule for cells too thin to lose follows the listing's least thickness".
 fn burned_word_is_valid(listing: &[u32], book: &[u32], cell: i128) -> bool {
     let entry = entry(book, cell);
     let sum = entry.oxidised + entry.burned;

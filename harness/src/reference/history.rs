@@ -3,7 +3,7 @@
 
 use super::balance::balance;
 use super::lines::read_lines;
-use super::listing::{cells, conversion_year, entered_depth};
+use super::listing::{cells, conversion_year, entered_depth, guard};
 use super::words::index;
 use super::year::{d_of_year, emission, is_converted};
 use crate::Account;
@@ -106,6 +106,11 @@ impl History {
     /// "the count of accepted closings" so far.
     pub fn closings(&self) -> u32 {
         self.closings
+    }
+
+    /// Guard: "After a fire at least the listing's guard then stays dry".
+    pub fn guard_holds(&self, fire: &Fire) -> bool {
+        fire.stayed_dry >= guard(&self.listing)
     }
 
     /// Depth: the statement after the list is accepted, and what it says remains, with all

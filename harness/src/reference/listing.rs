@@ -1,11 +1,11 @@
 //! "Project listing": where each figure is and what makes a word valid.
 
-use super::words::{at, bits, index, kind};
+use super::words::{at, bits, index, kind, length};
 
 /// The most cells a listing may have.
 pub const MOST_CELLS: i128 = 256;
 
-/// Words before the strata: word 0 and word 1.
+/// Words that every listing starts with: word 0 and word 1.
 pub const HEAD_WORDS: i128 = 2;
 
 /// "Two words for each cell."
@@ -62,11 +62,51 @@ pub fn word_1_is_valid(listing: &[u32]) -> bool {
         && (0..=100).contains(&methane_emission_ratio(listing))
 }
 
+// Kind 7.
+
+/// "A listing may carry, as word 2, a word of kind 7": whether it does. This is the site word.
+fn has_site_word(listing: &[u32]) -> bool {
+    length(listing) > 2 && kind(at(listing, 2)) == 7
+}
+
+/// "bits 27–14 the guard in mm"; "Without it they are 400 and 300."
+pub fn guard(listing: &[u32]) -> i128 {
+    if has_site_word(listing) {
+        bits(at(listing, 2), 27, 14)
+    } else {
+        400
+    }
+}
+
+/// "13–0 the least thickness in mm"; "Without it they are 400 and 300."
+pub fn least_thickness(listing: &[u32]) -> i128 {
+    if has_site_word(listing) {
+        bits(at(listing, 2), 13, 0)
+    } else {
+        300
+    }
+}
+
+/// Guard and least thickness, "each 0 to 2,000"; every bit is named. A site word is of kind 7.
+fn site_word_is_valid(listing: &[u32]) -> bool {
+    guard(listing) <= 2_000 && least_thickness(listing) <= 2_000
+}
+
 // Where the later words are.
+
+/// The place of the first stratum's first word. Of the site word: "The words after it move up by
+/// one".
+fn first_stratum_place(listing: &[u32]) -> i128 {
+    if has_site_word(listing) {
+        HEAD_WORDS + 1
+    } else {
+        HEAD_WORDS
+    }
+}
 
 /// The place of the first cell's first word, after strata × horizon words of the strata.
 fn first_cell_place(listing: &[u32]) -> i128 {
-    HEAD_WORDS + strata(listing) * horizon(listing)
+    first_stratum_place(listing) + strata(listing) * horizon(listing)
 }
 
 /// The place of the first of a cell's two words.
@@ -74,8 +114,8 @@ fn cell_place(listing: &[u32], cell: i128) -> i128 {
     first_cell_place(listing) + CELL_WORDS * cell
 }
 
-/// "strata × horizon + 2 × cells + 2": the fewest words of the listing, and so the place of the
-/// first word of kind 6.
+/// "strata × horizon + 2 × cells + 2", and with the site word "one word more": the fewest words of
+/// the listing, and so the place of the first word of kind 6.
 pub fn fewest_words(listing: &[u32]) -> i128 {
     cell_place(listing, cells(listing))
 }
@@ -88,7 +128,8 @@ pub fn word_of_age(listing: &[u32], stratum: i128, age: i128) -> u32 {
         (1..=horizon(listing)).contains(&age),
         "an age is from 1 to the horizon"
     );
-    at(listing, HEAD_WORDS + stratum * horizon(listing) + age - 1)
+    let first_age_place = first_stratum_place(listing) + stratum * horizon(listing);
+    at(listing, first_age_place + age - 1)
 }
 
 /// "bits 27–20 drainage in cm"
@@ -208,8 +249,11 @@ pub fn term_is_above(later: u32, earlier: u32) -> bool {
 
 // All words from word 2 on.
 
-/// Kind, zero bits and range of a word of the strata, of a cell, or of the terms.
+/// Kind, zero bits and range of the site word, of a word of the strata, of a cell, or of the terms.
 pub fn later_word_is_valid(listing: &[u32], place: i128) -> bool {
+    if place < first_stratum_place(listing) {
+        return site_word_is_valid(listing);
+    }
     if place < first_cell_place(listing) {
         return word_of_age_is_valid(at(listing, place));
     }

@@ -1,11 +1,13 @@
-//! The reference: the peat ledger in plain Rust, to be read beside document 01 ("the paper").
+//! The reference: the peat ledger in plain Rust, to be read beside document 01 ("the paper") and
+//! "Guard and thickness as site figures" of document 02. Document 02 is quoted on the site word,
+//! its guard and least thickness, and the program's limit; all else that is quoted is the paper's.
 //!
-//! It is written from document 01 alone and shares no code with the other implementations, only
-//! the types of the answers. Words are converted to i128 when read, and back when written.
+//! It is written from these alone and shares no code with the other implementations, only the types
+//! of the answers. Words are converted to i128 when read, and back when written.
 //! In the order of the paper:
 //!
 //! - `words`: bits, kinds and numbers of a word;
-//! - `listing`: "Project listing";
+//! - `listing`: "Project listing", with the site word of document 02;
 //! - `year`: "A cell's year";
 //! - `book`, `lines`, `calls`, `balance`: "Book and calls", and the forecast;
 //! - `history`: "Lists of calls";
@@ -28,6 +30,6 @@ mod year;
 pub use calls::{close, forecast, issue, open, replan, statement, withdraw};
 pub use discount::discount;
 pub use history::{Fire, History};
+pub use listing::guard;
 pub use program::program;
 pub use readings::depth;
-pub use year::GUARD;

@@ -7,11 +7,11 @@ use super::lines::{lines_words, read_lines, Lines};
 use super::listing::{cells, horizon, MOST_CELLS};
 use super::words::index;
 
-/// "`too long` above 11,256 bytes"
-const MOST_BYTES: usize = 11_256;
+/// "`peatrun` takes up to 11,260 bytes"
+const MOST_BYTES: usize = 11_260;
 
-/// What the program prints: "`too long` above 11,256 bytes, else `odd bytes` if not a multiple of
-/// 4", else what the listing gives.
+/// What the program prints: "`too long`" above the most bytes, "else `odd bytes` if not a multiple
+/// of 4", else what the listing gives.
 pub fn program(input: &[u8]) -> String {
     if input.len() > MOST_BYTES {
         return String::from("too long\n");

@@ -63,12 +63,14 @@ fn wrong_head_word(listing: &[u32]) -> Option<i128> {
     }
 }
 
-/// 3: "fewer words than strata × horizon + 2 × cells + 2", place: its length.
+/// 3: "fewer words than strata × horizon + 2 × cells + 2", place: its length. Of the site word:
+/// "number 3 asks for one word more".
 fn listing_too_short(listing: &[u32]) -> Option<i128> {
     (length(listing) < fewest_words(listing)).then_some(length(listing))
 }
 
-/// 4: "later word: kind, zero bits or range", place: index.
+/// 4: "later word: kind, zero bits or range", place: index. Of the site word: "Number 4 covers a
+/// value above 2,000 there."
 fn wrong_later_word(listing: &[u32]) -> Option<i128> {
     (HEAD_WORDS..length(listing)).find(|&place| !later_word_is_valid(listing, place))
 }

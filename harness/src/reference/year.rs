@@ -3,20 +3,15 @@
 use super::book::Entry;
 use super::lines::Lines;
 use super::listing::{
-    area, carbon_density, drainage, entered_depth, greatest_burning, greatest_oxidation,
-    methane_emission_ratio, stratum, warming_potential_of_methane, word_of_age,
+    area, carbon_density, drainage, entered_depth, greatest_burning, greatest_oxidation, guard,
+    least_thickness, methane_emission_ratio, stratum, warming_potential_of_methane, word_of_age,
 };
 
-/// The guard in mm: what stays dry below a fire ("d − 400").
-pub const GUARD: i128 = 400;
-
-/// The least thickness of peat in mm: "not peat by section 3.3" below it.
-const LEAST_THICKNESS: i128 = 300;
-
-/// A cell is not peat "if its entered depth is below 300 mm (not peat by section 3.3)". The entered
-/// depth alone counts: "A peat cell that has sunk below 300 mm still loses."
+/// A cell is not peat "if its entered depth is below 300 mm (not peat by section 3.3)", for 300 the
+/// listing's least thickness. The entered depth alone counts: "A peat cell that has sunk below
+/// 300 mm still loses."
 pub fn is_peat(listing: &[u32], cell: i128) -> bool {
-    entered_depth(listing, cell) >= LEAST_THICKNESS
+    entered_depth(listing, cell) >= least_thickness(listing)
 }
 
 /// Whether a plan year c is not "0 or above t".
@@ -24,8 +19,8 @@ pub fn is_converted(plan_year: i128, year: i128) -> bool {
     plan_year != 0 && plan_year <= year
 }
 
-/// "A cell loses nothing in t if it is withdrawn, if its plan year c is 0 or above t, or if its
-/// entered depth is below 300 mm"; whether it may lose.
+/// "A cell loses nothing in t if it is withdrawn, if its plan year c is 0 or above t, or if" it is
+/// not peat; whether it may lose.
 fn may_lose(listing: &[u32], cell: i128, entry: &Entry, year: i128) -> bool {
     !entry.withdrawn && is_converted(entry.plan_year, year) && is_peat(listing, cell)
 }
@@ -42,9 +37,9 @@ pub fn d_of_year(listing: &[u32], cell: i128, plan_year: i128, year: i128) -> i1
     10 * drainage(word_of_year(listing, cell, plan_year, year))
 }
 
-/// "burned = the least of b, R, and d − 400 (0 if d is below 400)"
-fn burned(d: i128, b: i128, remaining: i128) -> i128 {
-    let above_the_guard = if d < GUARD { 0 } else { d - GUARD };
+/// "burned = the least of b, R, and d − 400 (0 if d is below 400)", for 400 the listing's guard.
+fn burned(guard: i128, d: i128, b: i128, remaining: i128) -> i128 {
+    let above_the_guard = if d < guard { 0 } else { d - guard };
     b.min(remaining).min(above_the_guard)
 }
 
@@ -75,7 +70,7 @@ fn losses(listing: &[u32], cell: i128, entry: &Entry, year: i128) -> (i128, i128
     let word = word_of_year(listing, cell, entry.plan_year, year);
     let d = d_of_year(listing, cell, entry.plan_year, year);
     let remaining = remaining(listing, cell, entry);
-    let burned = burned(d, greatest_burning(word), remaining);
+    let burned = burned(guard(listing), d, greatest_burning(word), remaining);
     let oxidised = oxidised(d, greatest_oxidation(word), remaining, burned);
     (oxidised, burned)
 }

@@ -101,6 +101,12 @@ pub fn open(met: &mut Met, site: &Site, lent: &mut Lent) {
         (site.horizon as usize, 100, "100 years"),
         (site.terms.len(), 0, "no term"),
         (site.terms.len(), 700, "700 terms"),
+        (site.guard() as usize, 0, "guard 0"),
+        (site.guard() as usize, 2_000, "guard 2,000"),
+        (site.thickness() as usize, 0, "least thickness 0"),
+        (site.thickness() as usize, 2_000, "least thickness 2,000"),
+        (usize::from(site.site_word.is_some()), 0, "no site word"),
+        (usize::from(site.site_word.is_some()), 1, "a site word"),
     ];
     for (figure, limit, row) in limits {
         if figure == limit {

@@ -2,7 +2,7 @@
 use crate::lent::{agree, lend, open, reference_number, Lent};
 use harness::generate::{self, Call, Random};
 use harness::met::Met;
-use harness::reference::{History, GUARD};
+use harness::reference::History;
 use harness::site::{Site, LINE_WORDS};
 use harness::{Account, PROVED};
 
@@ -63,14 +63,13 @@ impl<'a> ListTally<'a> {
     /// The claim on fires, asked at each of them.
     fn closed(&mut self, met: &mut Met, lines: &[u32]) {
         for fire in self.history.closed(lines) {
-            assert!(fire.stayed_dry >= GUARD, "a fire of cell {}", fire.cell);
+            let holds = self.history.guard_holds(&fire);
+            assert!(holds, "a fire of cell {}", fire.cell);
             met.count("claim asked", "dry after a fire");
-            if fire.stayed_dry == GUARD {
+            if fire.stayed_dry == i128::from(self.site.guard()) {
                 met.count("fire", "left exactly the guard");
             }
-            if self.site.cells[fire.cell].entered - self.lost[fire.cell] < 300 {
-                met.count("fire", "of a cell sunk below 300 mm");
-            }
+            self.count_fire(met, fire.cell, fire.stayed_dry);
             let stratum = |cell: usize| self.site.cells[cell].stratum;
             let before = fire.cell.checked_sub(1);
             if before
@@ -87,6 +86,20 @@ impl<'a> ListTally<'a> {
         }
     }
 
+    /// What the site's figures make possible: a fire down to the water, and of peat thinner than 300 mm.
+    fn count_fire(&self, met: &mut Met, cell: usize, stayed_dry: i128) {
+        let entered = self.site.cells[cell].entered;
+        if stayed_dry == 0 {
+            met.count("fire", "down to the water, with a guard of 0");
+        }
+        if entered - self.lost[cell] < self.site.thickness() {
+            met.count("fire", "of a cell sunk below the least thickness");
+        }
+        if entered < 300 {
+            met.count("fire", "of a cell entered below 300 mm");
+        }
+    }
+
     /// Which case of the year rule a cell met in the year just closed, and what alone limited its losses.
     fn count_cell(&self, met: &mut Met, i: usize, burned: u32) {
         let (cell, plan) = (self.site.cells[i], self.plans[i]);
@@ -95,7 +108,7 @@ impl<'a> ListTally<'a> {
             (true, _) => Some("withdrawn"),
             (_, 0) => Some("plan year 0"),
             _ if plan > year => Some("plan year ahead"),
-            _ if cell.entered < 300 => Some("not peat"),
+            _ if cell.entered < self.site.thickness() => Some("not peat"),
             _ => None,
         };
         if let Some(row) = inactive {
@@ -103,11 +116,18 @@ impl<'a> ListTally<'a> {
         }
         let row = self.site.tables[cell.stratum as usize][(year - plan) as usize];
         let (d, remaining) = (10 * row.drainage, cell.entered - self.lost[i]);
-        let of_d = ["d below 400", "d is 400", "d above 400"];
-        met.count("cell in a closing", of_d[(d.cmp(&400) as i8 + 1) as usize]);
-        let burned_limits = [row.burning, remaining, d.saturating_sub(400)];
-        if let Some(limit) = least_alone(burned_limits) {
-            met.count("burned by", ["b alone", "R alone", "d - 400 alone"][limit]);
+        let guard = self.site.guard();
+        let of_d = ["d below the guard", "d is the guard", "d above the guard"];
+        met.count(
+            "cell in a closing",
+            of_d[(d.cmp(&guard) as i8 + 1) as usize],
+        );
+        if cell.entered == 0 {
+            met.count("cell in a closing", "of 0 mm, with a least thickness of 0");
+        }
+        let rows = ["b alone", "R alone", "d - guard alone"];
+        if let Some(limit) = least_alone([row.burning, remaining, d.saturating_sub(guard)]) {
+            met.count("burned by", rows[limit]);
         }
         let rows = ["o alone", "R - burned alone", "d - burned alone"];
         if let Some(limit) = least_alone([row.oxidation, remaining - burned, d - burned]) {
@@ -184,6 +204,11 @@ fn stray(random: &mut Random, met: &mut Met, site: &Site, lent: &Lent) {
             let which;
             (damaged.listing, which) = generate::past_range(random, site);
             met.count("listing just past", which);
+        }
+        2 => {
+            let which;
+            (damaged.listing, which) = generate::kind_7(random, site);
+            met.count("kind 7 in", which);
         }
         _ => {}
     }
