@@ -359,20 +359,20 @@ fn past_size(which: &str, word: &mut u32) {
     *word = *word & !mask | figure << low;
 }
 
-/// A good site's listing with one word made kind 7, and which: only word 2 is then a site word, and the first row's word is
-/// taken for it where there was none.
+/// A good site's listing with one word made kind 7 that was not, and which: only word 2 is then a site word.
 pub fn kind_7(random: &mut Random, site: &Site) -> (Vec<u32>, &'static str) {
     let mut words = site.words();
     let last = words.len() - 1;
     let place = match random.between(0, 4) {
-        early @ 0..=2 => early as usize,
+        early @ 0..=1 => early as usize,
+        2 => 2 + usize::from(site.site_word.is_some()),
         3 => last,
         _ => random.between(3, last as u32) as usize,
     };
     let which = match place {
         0 => "word 0",
         1 => "word 1",
-        2 => "word 2",
+        2 => "word 2, a table's word",
         _ => part(&words, place),
     };
     words[place] = 7 << 28 | words[place] & 0x0FFF_FFFF;

@@ -85,6 +85,7 @@ const GROUPS: &[(&str, &[&str])] = &[
         &[
             "left exactly the guard",
             "down to the water, with a guard of 0",
+            "with a guard above 400",
             "of a cell behind a withdrawn neighbour of another stratum",
             "of a cell sunk below the least thickness",
             "of a cell entered below 300 mm",
@@ -97,6 +98,7 @@ const GROUPS: &[(&str, &[&str])] = &[
             "plan year 0",
             "plan year ahead",
             "not peat",
+            "not peat at 300 mm or more",
             "d below the guard",
             "d is the guard",
             "d above the guard",
@@ -161,7 +163,7 @@ const GROUPS: &[(&str, &[&str])] = &[
         &[
             "word 0",
             "word 1",
-            "word 2",
+            "word 2, a table's word",
             "a table's word",
             "a cell's first word",
             "a cell's second word",

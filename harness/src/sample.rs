@@ -1,4 +1,4 @@
-//! Reading the files of samples/, and the papers' worked listings as they are printed there.
+//! Reading the files of samples/, and the listings worked on paper as they are printed there.
 use std::path::PathBuf;
 
 pub const WORKED: [u32; 6] = [

@@ -1,6 +1,6 @@
-//! The papers' worked figures, the ends of lengths and readings, and the claims on lists where they fail.
+//! The worked figures of document 01 and of the requests, the ends of lengths and readings, and the claims on lists where they fail.
 use harness::generate::{self, Random};
-use harness::reference::{self, guard, History};
+use harness::reference::{self, History};
 use harness::sample::{with_site_word, NEGATIVE_TERM, SITE_WORD, WORKED};
 use harness::site::{Cell, Row, Site, SiteWord};
 use harness::{Account, Answer, Ledger, Reading, PROVED, REFERENCE};
@@ -81,8 +81,7 @@ fn worked_years() {
     }
 }
 
-/// Guard, least thickness, d, b and entered depth, to burned: the guard stays dry, and what is thinner is no peat. The
-/// cell oxidises nothing.
+/// Guard, least thickness, d, b and entered depth of a cell that oxidises nothing, to burned mm.
 #[test]
 fn site_figures() {
     let rows = [
@@ -153,11 +152,10 @@ fn refused_site_words() {
     .concat();
     let mut invalid_row = with_site_word(0x7000_07D1);
     invalid_row[3] = 0;
-    let refusals: [(&[u32], u32, usize); 10] = [
+    let refusals: [(&[u32], u32, usize); 9] = [
         (&with_site_word(0x707D_07D1), 4, 2),
-        // Guard 2,001; both; and before the word of a table that is no such word.
-        (&with_site_word(7 << 28 | 2_001 << 14 | 300), 4, 2),
         (&with_site_word(0x7FFF_FFFF), 4, 2),
+        // Before the word of a table that is invalid.
         (&invalid_row, 4, 2),
         (&first_row, 3, 6),
         (&word_1, 2, 1),
@@ -172,11 +170,52 @@ fn refused_site_words() {
             assert_eq!((ledger.open)(listing, &mut book), refused(number, place));
             assert_eq!(book, [7; 5]);
         }
-        for ends in [0, 2_000 << 14 | 2_000] {
-            let listing = with_site_word(7 << 28 | ends);
+        // Above the range by one, and by each of the fields' high bits alone.
+        for above in [2_001, 2_048, 4_096, 8_192, 16_383] {
+            for figures in [above << 14, above, above << 14 | 300, 400 << 14 | above] {
+                let listing = with_site_word(7 << 28 | figures);
+                assert_eq!((ledger.open)(&listing, &mut [0; 5]), refused(4, 2));
+            }
+        }
+        for figures in [0, 2_000, 2_000 << 14, 2_000 << 14 | 2_000] {
+            let listing = with_site_word(7 << 28 | figures);
             assert_eq!((ledger.open)(&listing, &mut [0; 5]), accepted(0));
         }
     });
+}
+
+/// A site word of 400 and 300 gives what a listing without one gives.
+#[test]
+fn stated_defaults() {
+    let random = &mut Random(31);
+    for _ in 0..200 {
+        let site_word = Some(SiteWord {
+            guard: 400,
+            thickness: 300,
+        });
+        let site = generate::any_site(random);
+        let sites = [None, site_word].map(|site_word| Site {
+            site_word,
+            ..site.clone()
+        });
+        both(|ledger| {
+            let [without, with] = sites.each_ref().map(|site| all_years(ledger, site));
+            assert!(without == with);
+        });
+    }
+}
+
+/// The lines of each year, its issue, and the book after the last.
+fn all_years(ledger: &Ledger, site: &Site) -> (Vec<(Vec<u32>, Answer)>, Vec<u32>) {
+    let listing = site.words();
+    let mut book = vec![0; site.book_words()];
+    assert_eq!((ledger.open)(&listing, &mut book), accepted(0));
+    let years = (0..site.horizon).map(|_| {
+        let mut lines = vec![0; site.line_words()];
+        assert_eq!((ledger.close)(&listing, &mut book, &mut lines), accepted(0));
+        (lines, (ledger.issue)(&listing, &mut book))
+    });
+    (years.collect(), book)
 }
 
 #[test]
@@ -381,38 +420,44 @@ fn greatest_line() {
 /// One mm, one kg or one tonne too many returned breaks a claim on lists of calls: none is true of itself.
 #[test]
 fn claims_that_fail() {
+    claims_fail_of(&WORKED, 553);
+    claims_fail_of(&with_site_word(SITE_WORD), 391);
+}
+
+/// Of a listing whose first year burns as much as the guard lets it, and pays so many tonnes.
+fn claims_fail_of(listing: &[u32], tonnes: u32) {
     let mut book = [0; 5];
-    reference::open(&WORKED, &mut book);
+    reference::open(listing, &mut book);
     let mut lines = [0; 3];
-    reference::close(&WORKED, &mut book, &mut lines);
-    let account = reference::statement(&WORKED, &book, 0);
+    reference::close(listing, &mut book, &mut lines);
+    let account = reference::statement(listing, &book, 0);
     let closed = |more: [u32; 3]| {
-        let mut history = History::opened(&WORKED);
+        let mut history = History::opened(listing);
         let forged: Vec<u32> = lines
             .iter()
             .zip(more)
             .map(|(line, more)| line + more)
             .collect();
         let fires = history.closed(&forged);
-        (history, fires[0].stayed_dry)
+        let dry = history.guard_holds(&fires[0]);
+        (history, dry)
     };
-    let (mut history, stayed_dry) = closed([0, 0, 0]);
-    assert_eq!(stayed_dry, guard(&WORKED));
-    assert!(history.depth_holds(0, &account) && history.kilograms_hold(0));
-    history.issued(553);
+    let (mut history, dry) = closed([0, 0, 0]);
+    assert!(dry && history.depth_holds(0, &account) && history.kilograms_hold(0));
+    history.issued(tonnes);
     assert!(history.issues_hold());
     let (history, _) = closed([1, 0, 0]);
     assert!(!history.depth_holds(0, &account) && !history.kilograms_hold(0));
-    let (history, stayed_dry) = closed([0, 1, 0]);
-    assert!(!history.depth_holds(0, &account) && stayed_dry < guard(&WORKED));
+    let (history, dry) = closed([0, 1, 0]);
+    assert!(!history.depth_holds(0, &account) && !dry);
     for more in [1, u32::MAX] {
-        let mut history = History::opened(&WORKED);
+        let mut history = History::opened(listing);
         history.closed(&[lines[0], lines[1], lines[2].wrapping_add(more)]);
         assert!(history.depth_holds(0, &account) && !history.kilograms_hold(0));
     }
-    for tonnes in [552, 554] {
+    for wrong in [tonnes - 1, tonnes + 1] {
         let (mut history, _) = closed([0, 0, 0]);
-        history.issued(tonnes);
+        history.issued(wrong);
         assert!(!history.issues_hold());
     }
 }

@@ -1,4 +1,4 @@
-//! The files of samples/: companions against the bytes, expected texts against the reference and the papers.
+//! The files of samples/: companions against the bytes, expected texts against the reference and what was worked on paper.
 use harness::{reference, sample};
 use std::fs;
 use std::path::Path;
@@ -117,7 +117,7 @@ fn the_reference_gives_the_expected_text() {
 }
 
 #[test]
-fn worked_ones_are_those_of_the_paper() {
+fn worked_ones_are_those_worked_on_paper() {
     let worked = sample::bytes(&sample::WORKED);
     let with_term = [&worked[..], &sample::NEGATIVE_TERM.to_le_bytes()].concat();
     assert_eq!(read("worked", "bin"), worked);

@@ -1,6 +1,6 @@
 -- Document 01, "Project listing", with the site word of document 02: the fields of each kind of word, w. The bits that must be zero are named
 -- in Words.antt.
-use Rattle.std.specs.Prelude.{ℕ, ℤ, cond}
+use Rattle.std.specs.Prelude.{ℕ, ℤ, Bool, cond}
 use Rattle.words.specs.Bits.{bits, signed_bits, is_kind}
 use Rattle.fields.specs.declared.Head.{Head}
 use Rattle.fields.specs.declared.Row.{Row}
@@ -71,7 +71,11 @@ guard_of w = bits w 27 14
 abbrev pub thickness_of : ℕ → ℕ
 thickness_of w = bits w 13 0
 
--- and what they are in a listing without it
+-- whether word 2, x, is one: by its kind alone
+abbrev pub is_site_word : ℕ → Bool
+is_site_word x = is_kind 7 x
+
+-- what they are in a listing without it
 abbrev pub default_guard : ℕ
 default_guard = 400
 
@@ -80,7 +84,7 @@ default_thickness = 300
 
 -- ---- the same together
 
--- words 0 and 1, and x, word 2: the site word where it is of kind 7, and otherwise there is none
+-- words 0 and 1, and x, word 2, if it is the site word
 unfoldable pub head_of : ℕ → ℕ → ℕ → Head
 head_of w v x =
     record {
@@ -90,9 +94,9 @@ head_of w v x =
       buffer = buffer_of v;
       warming = warming_of v;
       methane = methane_of v;
-      has_site = is_kind 7 x;
-      guard = cond (is_kind 7 x) (guard_of x) default_guard;
-      thickness = cond (is_kind 7 x) (thickness_of x) default_thickness;
+      has_site_word = is_site_word x;
+      guard = cond (is_site_word x) (guard_of x) default_guard;
+      thickness = cond (is_site_word x) (thickness_of x) default_thickness;
     }
 
 -- a word of a table

@@ -1,4 +1,5 @@
--- Document 01, "Project listing", with the site word of document 02: which words are valid, each by itself, and the order of terms.
+-- Document 01, "Project listing", with the site word of document 02: which words are valid, each by itself, and the order
+-- of terms.
 use Rattle.std.specs.Prelude.{ℕ, Bool, ◌&&◌, ◌||◌, leb, ltb, eqb}
 use Rattle.words.specs.Bits.{bits, within, is_kind}
 use Rattle.fields.specs.Fields.{cells_of, strata_of, horizon_of, buffer_of, warming_of, methane_of, stratum_of, conversion_of, entered_of, area_of, density_of, term_of, year_of}
@@ -63,7 +64,7 @@ is_size_word w = is_kind 1 w && within 1 most_cells (cells_of w) && within 1 mos
 unfoldable pub is_figure_word : ℕ → Bool
 is_figure_word w = is_kind 2 w && eqb (bits w 27 23) 0 && within 0 most_buffer (buffer_of w) && within 1 most_warming (warming_of w) && within 0 most_methane (methane_of w)
 
--- the site's figures, from its word or without one: a guard and a least thickness of 0–2,000; the word has no zero bits
+-- the site's figures: a guard and a least thickness of 0–2,000. All bits of the site word are named, and what holds without one is in range
 unfoldable pub is_site_valid : Head → Bool
 is_site_valid h = leb h.guard most_guard && leb h.thickness most_thickness
 

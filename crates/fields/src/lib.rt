@@ -3,7 +3,7 @@
 
 ghost use Rattle.std.specs.Prelude.{◌≡◌, cond};
 ghost use Rattle.words.specs.Bits.{bits, is_kind};
-ghost use Rattle.fields.specs.Fields.{head_of, row_of, cell_of, yearly_term_of};
+ghost use Rattle.fields.specs.Fields.{is_site_word, head_of, row_of, cell_of, yearly_term_of};
 ghost use Rattle.fields.specs.Words.{is_size_word, is_figure_word, is_site_valid, is_table_word, is_depth_word, is_area_word, is_term_word, is_above};
 ghost use Rattle.fields.specs.Valid.{term_order};
 
@@ -100,7 +100,7 @@ pub struct Head {
     pub buffer: u32,
     pub warming: u32,
     pub methane: u32,
-    pub has_site: bool,
+    pub has_site_word: bool,
     pub guard: u32,
     pub thickness: u32,
 }
@@ -221,7 +221,7 @@ pub fn is_above(before: u32, w: u32) -> bool
 
 // A figure of the site: that of `x` where it is the site word, and otherwise what holds without one.
 fn site_figure(x: u32, figure: Field, default: u32) -> u32
-    ensures { result ≡ cond (is_kind 7 x) (bits x figure.high figure.low) default }
+    ensures { result ≡ cond (is_site_word x) (bits x figure.high figure.low) default }
 {
     if Kind::Site.is_of(x) {
         figure.of(x)
@@ -242,7 +242,7 @@ pub fn head_of(w: u32, v: u32, x: u32) -> Head
         buffer: BUFFER.of(v),
         warming: WARMING.of(v),
         methane: METHANE.of(v),
-        has_site: Kind::Site.is_of(x),
+        has_site_word: Kind::Site.is_of(x),
         guard: site_figure(x, GUARD, DEFAULT_GUARD),
         thickness: site_figure(x, THICKNESS, DEFAULT_THICKNESS),
     }

@@ -142,7 +142,7 @@ d_of l s before i =
 abbrev pub EveryUnconverted : Type 0
 EveryUnconverted = (l : List ℕ) (s : BroughtForward) (before : History) (i : ℕ) → unconverted (plan_in s before i) (suc (year_in s before)) ≡ true → d_of l s before i ≡ 0
 
--- if the cell burned in that year, its burned line leaves the listing's guard dry above the water
+-- if the cell burned in that year, its burned line leaves at least the listing's guard dry above the water
 abbrev pub StayedDry : List ℕ → BroughtForward → ℕ → List ℕ → History → Type 0
 StayedDry l s i x before = 0 < burned_line x i → guard l + burned_line x i ≤ d_of l s before i
 

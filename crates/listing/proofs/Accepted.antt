@@ -31,11 +31,11 @@ rows_most r = mul-le-mul {n₂ = most_strata} {m₂ = most_horizon} r.strata r.h
 -- the tables begin at word 2 or 3
 pub tables_least : (h : Head) → least_words ≤ tables_at h
 unfolding tables_at
-tables_least h = by_test (λ k. least_words ≤ k) h.has_site _ _ (λ e. omega arith) (λ e. omega arith)
+tables_least h = by_test (λ k. least_words ≤ k) h.has_site_word _ _ (λ e. omega arith) (λ e. omega arith)
 
 pub tables_most : (h : Head) → tables_at h ≤ latest_tables_at
 unfolding tables_at
-tables_most h = by_test (λ k. k ≤ latest_tables_at) h.has_site _ _ (λ e. omega arith) (λ e. omega arith)
+tables_most h = by_test (λ k. k ≤ latest_tables_at) h.has_site_word _ _ (λ e. omega arith) (λ e. omega arith)
 
 contiguous : {h : Head} → SizesWithin h → Contiguous h (offsets_of h)
 unfolding offsets_of

@@ -35,8 +35,8 @@ words_checked l h s =
     (need_all term_not_above (term_above l) (s.terms + 1) (length l)
     (accepted 0))))
 
--- number 3 before them: fewer words than strata × horizon + 2 × cells + 2, or + 3 with the site word, so that the terms would begin behind the
--- end; place its length. Then number 4 for the site word
+-- number 3 before them: fewer words than strata × horizon + 2 × cells + 2, or + 3 with the site word, so that the terms would begin after the
+-- end; place its length. Then number 4 for the site word; a head without one passes
 unfoldable pub later_checked : List ℕ → Head → Offsets → Answer
 later_checked l h s =
     need (leb s.terms (length l)) listing_short (length l)

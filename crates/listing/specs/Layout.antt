@@ -1,4 +1,5 @@
--- Document 01, "Project listing", with the site word of document 02: where the words of a listing l are. Check.antt names words 0 and 1 again, to refuse them at their places.
+-- Document 01, "Project listing", with the site word of document 02: where the words of a listing l are. Check.antt names words 0 and 1 again,
+-- to refuse them at their places.
 use Rattle.std.specs.Prelude.{ℕ, ◌+◌, ◌-◌, ◌*◌, cond, List, get_or}
 use Rattle.fields.specs.Fields.{head_of, row_of, cell_of}
 use Rattle.fields.specs.Words.{most_cells, most_strata, most_horizon, year_terms}
@@ -11,7 +12,7 @@ use Rattle.listing.specs.declared.Offsets.{Offsets}
 abbrev pub site_at : ℕ
 site_at = 2
 
--- the words of the head, and their figures by name. A listing that ends before word 2 has no site word, since 0 is of no kind
+-- words 0 to 2, and their figures by name. A listing that ends before word 2 has no site word, since 0 is not of kind 7
 abbrev pub head : List ℕ → Head
 head l = head_of (get_or l 0 0) (get_or l 1 0) (get_or l site_at 0)
 
@@ -35,12 +36,12 @@ least_words = 2
 abbrev pub cell_words : ℕ
 cell_words = 2
 
--- where the tables begin, behind the site word or at its place, and the latest such place
-unfoldable pub tables_at : Head → ℕ
-tables_at h = cond h.has_site (site_at + 1) site_at
-
+-- where the tables begin: after the site word, which is the latest such place, or at word 2 where there is none
 abbrev pub latest_tables_at : ℕ
 latest_tables_at = site_at + 1
+
+unfoldable pub tables_at : Head → ℕ
+tables_at h = cond h.has_site_word latest_tables_at site_at
 
 -- the tables have for each stratum one word for each year of age; then come the cells; then the terms
 unfoldable pub offsets_of : Head → Offsets

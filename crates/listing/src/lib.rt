@@ -20,7 +20,7 @@ const LEAST_WORDS: usize = 2;
 // The place of the site word, in a listing that carries it.
 const SITE_AT: usize = 2;
 
-// Where the tables begin at the latest: behind the site word.
+// Where the tables begin at the latest: after the site word.
 const LATEST_TABLES_AT: usize = SITE_AT + 1;
 
 const CELL_WORDS: usize = 2;
@@ -195,7 +195,7 @@ fn first_term_not_above(listing: &[u32], start: usize) -> usize
     )
 }
 
-// The head of a listing; one that ends before word 2 has no site word, since 0 is of no kind.
+// The head of a listing; one that ends before word 2 has no site word, since 0 is not of kind 7.
 pub fn head(listing: &[u32]) -> Head
     requires { least_words ≤ length listing.now }
     ensures { result ≡ head listing.now }
@@ -209,7 +209,11 @@ pub fn head(listing: &[u32]) -> Head
 fn tables_at(h: Head) -> usize
     ensures { result ≡ tables_at h }
 {
-    if h.has_site { SITE_AT + 1 } else { SITE_AT }
+    if h.has_site_word {
+        LATEST_TABLES_AT
+    } else {
+        SITE_AT
+    }
 }
 
 // Where the parts begin in a listing of these sizes.

@@ -8,7 +8,7 @@ use Rattle.words.specs.declared.Reason.TheVariants as reasons
 abbrev pub too_few_words : ℕ
 too_few_words = 1
 
--- a word of the head that is invalid; its index
+-- word 0 or 1 is invalid; its index
 abbrev pub head_word : ℕ
 head_word = 2
 

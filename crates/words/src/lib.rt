@@ -16,7 +16,7 @@ use std::fmt;
 pub enum Reason {
     // Listing: too few words for a head; place 0.
     TooFewWords = 1,
-    // A word of the head that is invalid; its index.
+    // Word 0 or 1 is invalid; its index.
     HeadWord = 2,
     // Too short for its head; its length.
     ListingShort = 3,

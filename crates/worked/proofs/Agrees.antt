@@ -1,4 +1,4 @@
--- Every row of the papers' worked figures agrees with the definitions, by computation. Assumes nothing.
+-- Every row of the worked figures agrees with the definitions, by computation. Assumes nothing.
 use mathlib.Core.Path.{refl}
 use lib.Ieee.{of_bits}
 use Rattle.words.specs.Answers.{need, need_none, after}

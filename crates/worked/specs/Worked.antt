@@ -1,5 +1,5 @@
--- Document 01, "Worked on paper", and the figures of the change requests: the definitions that the contracts cite, applied to the papers'
--- figures, in their order. One table, and one theorem that every row agrees; proofs/Agrees.antt proves it.
+-- Document 01, "Worked on paper", and after it the worked figures that came with the change requests: the definitions that the contracts
+-- cite, applied to these figures, in their order. One table, and one theorem that every row agrees; proofs/Agrees.antt proves it.
 use Rattle.std.specs.Prelude.{◌≡◌, false, List, [], ◌∷◌, ◌++◌, map, ℕ, zero, suc, take}
 use Rattle.std.specs.Float.{binary32}
 use Rattle.std.specs.Float.Ieee.{of_bits}
@@ -13,7 +13,7 @@ use Rattle.reading.specs.Depth.{depth}
 use Rattle.reading.specs.declared.Reading.TheVariants.{Core, Levels}
 use Rattle.discount.specs.Discount.{factor}
 
--- a row: what the definitions give, and what the paper says
+-- a row: what the definitions give, and what it was worked out to be
 pub record Row : Type 0 where
   pub given : List ℕ
   pub paper : List ℕ
@@ -65,7 +65,7 @@ site_after_one = 0x80000001 ∷ 0x90000187 ∷ 0xA0000001 ∷ 0xB000002D ∷ 0xC
 abbrev pub site_after_two : List ℕ
 site_after_two = 0x80000002 ∷ 0x900001C8 ∷ 0xA0000001 ∷ 0xB000005A ∷ 0xC00000C8 ∷ []
 
--- what is refused: that listing with least thickness 2,001; the first listing with its first row's word of kind 7, and with its word 1 so
+-- what is refused: that listing with least thickness 2,001; the first listing with kind 7 in place of its first row's, and of its word 1's
 abbrev pub thickness_2001 : List ℕ
 thickness_2001 = 0x10010102 ∷ 0x2014190C ∷ 0x707D07D1 ∷ 0x3460B554 ∷ 0x3460B400 ∷ 0x400107D0 ∷ 0x527101F4 ∷ []
 

@@ -1,6 +1,6 @@
-// The papers' worked figures and refusals, run through the calls. Each line says what was asked, and
-// then the number, the place and the value of the answer; crates/worked/stdout has what the papers
-// give.
+// The worked figures and refusals of document 01 and of the change requests, run through the calls. Each
+// line says what was asked, and then the number, the place and the value of the answer;
+// crates/worked/stdout has what was worked out.
 #![tactic(auto)]
 
 use book::LINE_WORDS;

@@ -11,7 +11,7 @@ struct Sample {
     bytes: Vec<u8>,
     /// The companion's words, each with what it contains.
     words: String,
-    /// The papers' own text, where they give one; else the reference's.
+    /// The text that was worked out on paper, where there is one; else the reference's.
     expected: Option<&'static str>,
 }
 

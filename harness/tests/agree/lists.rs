@@ -92,6 +92,9 @@ impl<'a> ListTally<'a> {
         if stayed_dry == 0 {
             met.count("fire", "down to the water, with a guard of 0");
         }
+        if self.site.guard() > 400 {
+            met.count("fire", "with a guard above 400");
+        }
         if entered - self.lost[cell] < self.site.thickness() {
             met.count("fire", "of a cell sunk below the least thickness");
         }
@@ -108,7 +111,8 @@ impl<'a> ListTally<'a> {
             (true, _) => Some("withdrawn"),
             (_, 0) => Some("plan year 0"),
             _ if plan > year => Some("plan year ahead"),
-            _ if cell.entered < self.site.thickness() => Some("not peat"),
+            _ if cell.entered < 300.min(self.site.thickness()) => Some("not peat"),
+            _ if cell.entered < self.site.thickness() => Some("not peat at 300 mm or more"),
             _ => None,
         };
         if let Some(row) = inactive {
