@@ -6,8 +6,9 @@
  * on Linux, x86-64-v2 (`rt lib --cpu x86-64`: any x86-64). harness/tests/header.c is an example of every call.
  *
  * docs/RULES.md describes listing, book and lines bit by bit, and every rule. In short: a listing holds a project's
- * figures, a book its state; both are arrays of 32-bit words that the caller owns. The library keeps nothing between
- * calls and allocates nothing.
+ * figures, a book its state; both are arrays of 32-bit words that the caller owns. A listing whose word 2 is of kind 7,
+ * its site word, states its own guard and least thickness of peat there; without it they are 400 and 300 mm. The
+ * library keeps nothing between calls and allocates nothing.
  *
  * Slices. An array is passed as a pointer and its length in elements, not bytes. Any length and any contents get an
  * answer, but the caller sees to it that
@@ -24,7 +25,7 @@
  *    1   every listing         fewer than 2 words                                      0
  *    2                         word 0 or 1: kind, zero bits or range                   index of the word
  *    3                         fewer words than strata * horizon + 2 * cells + 2,      length of the listing
- *                              or + 3 where word 2 is a site word (kind 7)
+ *                              or + 3 with a site word
  *    4                         a later word: kind, zero bits or range                  index of the word
  *    5                         a yearly term not above the one before                  index of the later term
  *    6   every book            shorter than 2 + 3 * cells words                        length of the book
