@@ -5,7 +5,7 @@ use mathlib.Core.Bool.{Bool, true, false, ◌&&◌, ◌||◌}
 use Prim.Native.Nat.{ℕ, ◌+◌, ◌-◌, ◌*◌, ◌≤◌, ◌<◌}
 use native.Mathlib.Omega.{arith}
 use lib.Dec.{eqb, ltb}
-use borrow.Author.Tests.{ltb-true, leb-true, eqb-true, lt-ltb, le-ltb, eq-eqb, ne_eqb}
+use borrow.Author.Tests.{ltb-true, leb-true, eqb-true, lt-ltb, le-ltb, le-leb, eq-eqb, ne_eqb}
 use Rattle.std.specs.Coded.{×_prop, le_prop}
 use Rattle.std.proofs.Math.Nat.{ℕ_set}
 use Rattle.words.specs.Bits.{within}
@@ -16,7 +16,7 @@ use Rattle.fields.specs.Fields.{cells_of, strata_of, horizon_of, buffer_of, warm
 use Rattle.fields.specs.Fields.{term_of, year_of, head_of, row_of, cell_of}
 use Rattle.fields.specs.Words.{most_cells, most_strata, most_horizon, most_buffer, most_warming, most_methane, most_depth, most_area, most_density, most_term, year_terms}
 use Rattle.fields.specs.Words.{is_size_word, is_figure_word, is_site_valid, is_depth_word, is_area_word, is_term_word, is_above}
-use Rattle.fields.specs.Valid.{SizesWithin, HeadValid, RowValid, CellValid, Listed, TermValid, term_order}
+use Rattle.fields.specs.Valid.{SizesWithin, HeadValid, RowValid, CellValid, Listed, TermValid, is_listed_term, term_order}
 
 pub sizes_within : (w v x : ℕ) → is_size_word w ≡ true → SizesWithin (head_of w v x)
 unfolding is_size_word head_of
@@ -97,6 +97,15 @@ term_valid horizon w h =
       term = ⊎_elim (λ e. inl (eqb-true _ _ e)) (λ e. inr (within_least _ _ _ e, within_most _ _ _ e)) (either _ _ term);
       year = (within_least _ _ _ year, within_most _ _ _ year);
     }
+
+-- a term's word, and its year apart
+pub listed_of : (horizon w : ℕ) → is_term_word horizon w ≡ true → is_listed_term w ≡ true
+unfolding is_term_word is_listed_term
+listed_of horizon w h = and_left _ _ h
+
+pub term_word_by : (horizon w : ℕ) → is_listed_term w ≡ true → 1 ≤ year_of w → year_of w ≤ horizon → is_term_word horizon w ≡ true
+unfolding is_term_word is_listed_term within
+term_word_by horizon w h least most = rw (h, le-leb 1 (year_of w) least, le-leb (year_of w) horizon most) refl
 
 pub term_most : {horizon w : ℕ} → TermValid horizon w → term_of w ≤ most_term
 term_most {w} r = ⊎_elim (λ (e : term_of w ≡ 1). omega arith) (λ (e : (3 ≤ term_of w) × (term_of w ≤ most_term)). e.1) r.term

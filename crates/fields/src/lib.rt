@@ -5,7 +5,7 @@ ghost use Rattle.std.specs.Prelude.{◌≡◌, cond};
 ghost use Rattle.words.specs.Bits.{bits, is_kind};
 ghost use Rattle.fields.specs.Fields.{is_site_word, head_of, row_of, cell_of, yearly_term_of};
 ghost use Rattle.fields.specs.Words.{is_size_word, is_figure_word, is_site_valid, is_table_word, is_depth_word, is_area_word, is_term_word, is_above};
-ghost use Rattle.fields.specs.Valid.{term_order};
+ghost use Rattle.fields.specs.Valid.{is_listed_term, term_order};
 
 use words::{Field, Kind};
 
@@ -195,13 +195,18 @@ pub fn is_area_word(w: u32) -> bool
         & DENSITY.is_within(w, 1, MOST_DENSITY)
 }
 
-// Whether w is valid as a term: 1, or 3 and more, by the methodology's numbers.
+// Whether w is valid as a term but for its year: 1, or 3 and more, by the methodology's numbers.
+pub fn is_listed_term(w: u32) -> bool
+    ensures { result ≡ is_listed_term w }
+{
+    Kind::Term.is_of(w) & ((TERM.of(w) == 1) | TERM.is_within(w, 3, MOST_TERM))
+}
+
+// Whether w is valid as a term.
 pub fn is_term_word(w: u32, horizon: u32) -> bool
     ensures { result ≡ is_term_word horizon w }
 {
-    Kind::Term.is_of(w)
-        & ((TERM.of(w) == 1) | TERM.is_within(w, 3, MOST_TERM))
-        & YEAR.is_within(w, 1, horizon)
+    is_listed_term(w) & YEAR.is_within(w, 1, horizon)
 }
 
 // A term's place in the order of terms: by year, then by term, which has 4 bits. One number, which a pass

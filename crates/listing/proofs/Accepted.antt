@@ -11,11 +11,11 @@ use Rattle.words.specs.Answers.{Answer}
 use Rattle.words.proofs.Steps.{row_within}
 use Rattle.words.proofs.Answers.{need_accepted, need_all_accepted}
 use Rattle.words.proofs.Signed.{by_test}
-use Rattle.fields.specs.Words.{most_strata, most_horizon, year_terms, is_size_word, is_depth_word, is_area_word, is_above}
-use Rattle.fields.specs.Valid.{SizesWithin, TermValid}
+use Rattle.fields.specs.Words.{most_strata, most_horizon, year_terms, is_size_word, is_depth_word, is_area_word, is_term_word, is_above}
+use Rattle.fields.specs.Valid.{SizesWithin, TermValid, is_listed_term}
 use Rattle.fields.specs.declared.Head.{Head}
 use Rattle.fields.specs.Fields.{year_of}
-use Rattle.fields.proofs.Valid.{sizes_within, head_valid, row_valid, cell_valid, term_valid, above_year, rank, rank_below, rank_above}
+use Rattle.fields.proofs.Valid.{sizes_within, head_valid, row_valid, cell_valid, term_valid, term_word_by, above_year, rank, rank_below, rank_above}
 use Rattle.listing.specs.Layout.{least_words, site_at, cell_words, tables_at, latest_tables_at, most_term_words, head, cells, strata, horizon, offsets_of, offsets, row_at, cell_at}
 use Rattle.listing.specs.Check.{is_cell_word, words_checked, later_checked, checked}
 use Rattle.listing.specs.Accepted.{Contiguous, Accepted}
@@ -97,6 +97,32 @@ module _ (l : List ℕ) (horizon start : ℕ)
       omega arith) in
       omega arith
 
+-- terms rise by year
+module _ (l : List ℕ) (start : ℕ) (rising : (k : ℕ) → start + 1 ≤ k → k < length l → is_above (get_or l (k - 1) 0) (get_or l k 0) ≡ true) where
+  rise_by : (j d : ℕ) → start ≤ j → j + d < length l → year_of (get_or l j 0) ≤ year_of (get_or l (j + d) 0)
+  rise_by j zero low high =
+      let e : j + 0 ≡ j = omega arith in
+      omega (arith, ap (λ (k : ℕ). year_of (get_or l k 0)) e)
+  rise_by j (suc d) low high =
+      let e : j + suc d - 1 ≡ j + d = omega arith in
+      let up = rw e at (rising (j + suc d) (omega arith) high) in
+      omega (arith, above_year (get_or l (j + d) 0) (get_or l (j + suc d) 0) up, rise_by j d low (omega arith))
+
+  pub rise : (j k : ℕ) → start ≤ j → j ≤ k → k < length l → year_of (get_or l j 0) ≤ year_of (get_or l k 0)
+  rise j k low h high =
+      let e : j + (k - j) ≡ k = omega arith in
+      rw e at (rise_by j (k - j) low (omega arith))
+
+  -- so where the first and the last are valid, the years of all are
+  pub valid_between : (years : ℕ) → ((k : ℕ) → start ≤ k → k < length l → is_listed_term (get_or l k 0) ≡ true) →
+      is_term_word years (get_or l start 0) ≡ true → is_term_word years (get_or l (length l - 1) 0) ≡ true →
+      (k : ℕ) → start ≤ k → k < length l → is_term_word years (get_or l k 0) ≡ true
+  valid_between years listed first last k low high =
+      let f = (term_valid years _ first).year in
+      let z = (term_valid years _ last).year in
+      term_word_by years (get_or l k 0) (listed k low high) (omega (arith, f, rise start k (omega arith) low high))
+      (omega (arith, z, rise k (length l - 1) low (omega arith) (omega arith)))
+
 -- ---- all of it
 
 pub accepted : (l : List ℕ) → (checked l).done ≡ true → Accepted l
@@ -147,21 +173,8 @@ terms_at_most l a =
     let horizon = a.head_valid.horizon in
     omega arith
 
--- terms rise by year
-module _ (l : List ℕ) (a : Accepted l) where
-  rise_by : (j d : ℕ) → (offsets l).terms ≤ j → j + d < length l → year_of (get_or l j 0) ≤ year_of (get_or l (j + d) 0)
-  rise_by j zero low high =
-      let e : j + 0 ≡ j = omega arith in
-      omega (arith, ap (λ (k : ℕ). year_of (get_or l k 0)) e)
-  rise_by j (suc d) low high =
-      let e : j + suc d - 1 ≡ j + d = omega arith in
-      let up = rw e at (a.rising (j + suc d) (omega arith) high) in
-      omega (arith, above_year (get_or l (j + d) 0) (get_or l (j + suc d) 0) up, rise_by j d low (omega arith))
-
-  pub years_rise : (j k : ℕ) → (offsets l).terms ≤ j → j ≤ k → k < length l → year_of (get_or l j 0) ≤ year_of (get_or l k 0)
-  years_rise j k low h high =
-      let e : j + (k - j) ≡ k = omega arith in
-      rw e at (rise_by j (k - j) low (omega arith))
+pub years_rise : (l : List ℕ) → Accepted l → (j k : ℕ) → (offsets l).terms ≤ j → j ≤ k → k < length l → year_of (get_or l j 0) ≤ year_of (get_or l k 0)
+years_rise l a = rise l (offsets l).terms a.rising
 
 -- ---- of an accepted listing, with h and s what `head` and `offsets_of` answered
 

@@ -140,7 +140,7 @@ fn first_invalid_cell_word(listing: &[u32], h: Head, start: usize, end: usize) -
 }
 
 // Whether there are terms, each of them valid and above the one before: without a branch for each
-// word, as above.
+// word, as above. Their years rise, so that only the first and the last year are tested.
 fn terms_valid(listing: &[u32], horizon: u32, start: usize) -> bool
     requires { start ≤ length listing.now }
     ensures { result ≡ true →
@@ -154,11 +154,11 @@ fn terms_valid(listing: &[u32], horizon: u32, start: usize) -> bool
     let mut last = fields::term_order(listing[start]);
     for at in start + 1..listing.len() {
         let next = fields::term_order(listing[at]);
-        valid &= fields::is_term_word(listing[at], horizon);
+        valid &= fields::is_listed_term(listing[at]);
         valid &= last < next;
         last = next;
     }
-    valid
+    valid & fields::is_term_word(listing[listing.len() - 1], horizon)
 }
 
 // The first term that is invalid; where there is none, the length.

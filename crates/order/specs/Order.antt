@@ -59,7 +59,7 @@ pub record Moved {n : ℕ} (o : Order n) (size at : ℕ) (x y : List ℕ) : Type
   pub before : SameWords at y 0 x 0
   pub block : (m : ℕ) → m < n → SameWords size y (at + size * m) x (at + size * o.from m)
 
--- l' is listing l with its cells in that order; its head, its length and all its other words are the same
+-- l' is listing l with its cells in that order; its head, which words 0 to 2 give, its length and all its other words are the same
 pub record ListingMoved {n : ℕ} (o : Order n) (l l' : List ℕ) : Type 0 where
   pub count : cells l ≡ n
   pub head_is : head l' ≡ head l

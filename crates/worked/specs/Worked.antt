@@ -69,6 +69,10 @@ site_after_two = 0x80000002 ∷ 0x900001C8 ∷ 0xA0000001 ∷ 0xB000005A ∷ 0xC
 abbrev pub thickness_2001 : List ℕ
 thickness_2001 = 0x10010102 ∷ 0x2014190C ∷ 0x707D07D1 ∷ 0x3460B554 ∷ 0x3460B400 ∷ 0x400107D0 ∷ 0x527101F4 ∷ []
 
+-- and guard 2,001 before a first row that is of no kind
+abbrev pub guard_2001 : List ℕ
+guard_2001 = 0x10010102 ∷ 0x2014190C ∷ 0x71F4412C ∷ 0x0460B554 ∷ 0x3460B400 ∷ 0x400107D0 ∷ 0x527101F4 ∷ []
+
 abbrev pub row_of_kind_7 : List ℕ
 row_of_kind_7 = 0x10010102 ∷ 0x2014190C ∷ 0x7460B554 ∷ 0x3460B400 ∷ 0x400107D0 ∷ 0x527101F4 ∷ []
 
@@ -123,6 +127,7 @@ rows =
     ∷ row (year with_site site_after_one) (45 ∷ 0 ∷ 82500 ∷ 65 ∷ site_after_two)
     ∷ row ((statement_answer with_site site_after_two 0).figures.remaining ∷ []) (1710 ∷ [])
     ∷ row (refusal thickness_2001) (4 ∷ 2 ∷ [])
+    ∷ row (refusal guard_2001) (4 ∷ 2 ∷ [])
     ∷ row (refusal row_of_kind_7) (3 ∷ 6 ∷ [])
     ∷ row (refusal word_1_of_kind_7) (2 ∷ 1 ∷ [])
     ∷ []

@@ -94,14 +94,16 @@ impl<'a> Listing<'a> {
         self.cells.iter().fold(true, valid)
     }
 
-    /// Numbers 4 and 5 in one pass.
+    /// Numbers 4 and 5 in one pass; the years rise, so that only the first and the last year are tested.
     fn terms_valid(&self) -> bool {
         let (mut valid, mut before) = (true, 0);
         for &word in self.terms {
-            valid = valid & self.term_is_valid(word) & (before < order(word));
+            valid = valid & term_is_listed(word) & (before < order(word));
             before = order(word);
         }
-        valid
+        let ends = [self.terms.first(), self.terms.last()];
+        let of_a_year = |word: Option<&u32>| word.is_none_or(|&word| self.term_is_valid(word));
+        valid & ends.into_iter().all(of_a_year)
     }
 
     /// The first invalid word of a listing that has one: every 4 comes before any 5.
@@ -140,12 +142,15 @@ impl<'a> Listing<'a> {
     }
 
     fn term_is_valid(&self, word: u32) -> bool {
-        let (term, year) = (bits(word, 27, 24), bits(word, 23, 17));
-        (word >> 28 == 6)
-            & ((term == 1) | (3 <= term) & (term <= 8))
-            & (1 <= year)
-            & (year <= self.horizon)
+        let year = bits(word, 23, 17);
+        term_is_listed(word) & (1 <= year) & (year <= self.horizon)
     }
+}
+
+/// A term's word but for its year.
+fn term_is_listed(word: u32) -> bool {
+    let term = bits(word, 27, 24);
+    (word >> 28 == 6) & ((term == 1) | (3 <= term) & (term <= 8))
 }
 
 fn size_is_valid(word: u32) -> bool {
