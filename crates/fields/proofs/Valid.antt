@@ -15,8 +15,8 @@ use Rattle.words.proofs.Answers.{and_left, and_right, within_least, within_most}
 use Rattle.fields.specs.Fields.{cells_of, strata_of, horizon_of, buffer_of, warming_of, methane_of, stratum_of, conversion_of, entered_of, area_of, density_of}
 use Rattle.fields.specs.Fields.{term_of, year_of, head_of, row_of, cell_of}
 use Rattle.fields.specs.Words.{most_cells, most_strata, most_horizon, most_buffer, most_warming, most_methane, most_depth, most_area, most_density, most_term, year_terms}
-use Rattle.fields.specs.Words.{is_size_word, is_figure_word, is_site_valid, is_depth_word, is_area_word, is_term_word, is_above}
-use Rattle.fields.specs.Valid.{SizesWithin, HeadValid, RowValid, CellValid, Listed, TermValid, is_listed_term, term_order}
+use Rattle.fields.specs.Words.{is_size_word, is_figure_word, is_site_valid, is_depth_word, is_area_word, is_listed_term, is_term_word, is_above}
+use Rattle.fields.specs.Valid.{SizesWithin, HeadValid, RowValid, CellValid, Listed, TermValid, term_order}
 
 pub sizes_within : (w v x : ℕ) → is_size_word w ≡ true → SizesWithin (head_of w v x)
 unfolding is_size_word head_of
@@ -89,7 +89,7 @@ unfolding term_order is_above
 above_order before w = by_order (year_of before) (year_of w) (term_of before) (term_of w) (field_below before 24 4) (field_below w 24 4)
 
 pub term_valid : (horizon w : ℕ) → is_term_word horizon w ≡ true → TermValid horizon w
-unfolding is_term_word
+unfolding is_term_word is_listed_term
 term_valid horizon w h =
     let term : (eqb (term_of w) 1 || within 3 most_term (term_of w)) ≡ true = search (and_left, and_right) in
     let year : within 1 horizon (year_of w) ≡ true = search (and_left, and_right) in
@@ -98,13 +98,13 @@ term_valid horizon w h =
       year = (within_least _ _ _ year, within_most _ _ _ year);
     }
 
--- a term's word, and its year apart
+-- a valid term is valid but for its year, and the other way round where its year is in range
 pub listed_of : (horizon w : ℕ) → is_term_word horizon w ≡ true → is_listed_term w ≡ true
-unfolding is_term_word is_listed_term
+unfolding is_term_word
 listed_of horizon w h = and_left _ _ h
 
 pub term_word_by : (horizon w : ℕ) → is_listed_term w ≡ true → 1 ≤ year_of w → year_of w ≤ horizon → is_term_word horizon w ≡ true
-unfolding is_term_word is_listed_term within
+unfolding is_term_word within
 term_word_by horizon w h least most = rw (h, le-leb 1 (year_of w) least, le-leb (year_of w) horizon most) refl
 
 pub term_most : {horizon w : ℕ} → TermValid horizon w → term_of w ≤ most_term

@@ -1,6 +1,5 @@
 -- What valid words guarantee, for the contracts of the crates above. proofs/Valid.antt makes it from the tests.
-use Rattle.std.specs.Prelude.{◌≡◌, ◌⊎◌, ℕ, ◌+◌, ◌*◌, ◌≤◌, ◌<◌, Bool, ◌&&◌, ◌||◌, eqb}
-use Rattle.words.specs.Bits.{within, is_kind}
+use Rattle.std.specs.Prelude.{◌≡◌, ◌⊎◌, ℕ, ◌+◌, ◌*◌, ◌≤◌, ◌<◌}
 use Rattle.fields.specs.Fields.{term_of, year_of}
 use Rattle.fields.specs.Words.{most_cells, most_strata, most_horizon, most_buffer, most_warming, most_methane, most_guard, most_thickness, most_depth, most_area, most_density, most_term}
 use Rattle.fields.specs.declared.Head.{Head}
@@ -46,10 +45,6 @@ Listed term = (term ≡ 1) ⊎ ((3 ≤ term) × (term ≤ most_term))
 pub record TermValid (horizon w : ℕ) : Type 0 where
   pub term : Listed (term_of w)
   pub year : (1 ≤ year_of w) × (year_of w ≤ horizon)
-
--- a term's word but for its year: its kind, and a term that a listing may have
-unfoldable pub is_listed_term : ℕ → Bool
-is_listed_term w = is_kind 6 w && (eqb (term_of w) 1 || within 3 most_term (term_of w))
 
 -- a number that has the order of terms, by year, then term, which has 4 bits
 unfoldable pub term_order : ℕ → ℕ

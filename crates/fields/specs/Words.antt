@@ -80,9 +80,13 @@ is_depth_word strata horizon w = is_kind 4 w && ltb (stratum_of w) strata && wit
 unfoldable pub is_area_word : ℕ → Bool
 is_area_word w = is_kind 5 w && eqb (bits w 27 26) 0 && within 1 most_area (area_of w) && within 1 most_density (density_of w)
 
--- a term: 1 or 3 to 8, a year of 1 to the horizon; every number of tonnes is allowed
+-- a term but for its year: 1 or 3 to 8; every number of tonnes is allowed
+unfoldable pub is_listed_term : ℕ → Bool
+is_listed_term w = is_kind 6 w && (eqb (term_of w) 1 || within 3 most_term (term_of w))
+
+-- a term: with a year of 1 to the horizon
 unfoldable pub is_term_word : ℕ → ℕ → Bool
-is_term_word horizon w = is_kind 6 w && (eqb (term_of w) 1 || within 3 most_term (term_of w)) && within 1 horizon (year_of w)
+is_term_word horizon w = is_listed_term w && within 1 horizon (year_of w)
 
 -- terms rise strictly by year, then term
 unfoldable pub is_above : ℕ → ℕ → Bool

@@ -4,8 +4,8 @@
 ghost use Rattle.std.specs.Prelude.{◌≡◌, cond};
 ghost use Rattle.words.specs.Bits.{bits, is_kind};
 ghost use Rattle.fields.specs.Fields.{is_site_word, head_of, row_of, cell_of, yearly_term_of};
-ghost use Rattle.fields.specs.Words.{is_size_word, is_figure_word, is_site_valid, is_table_word, is_depth_word, is_area_word, is_term_word, is_above};
-ghost use Rattle.fields.specs.Valid.{is_listed_term, term_order};
+ghost use Rattle.fields.specs.Words.{is_size_word, is_figure_word, is_site_valid, is_table_word, is_depth_word, is_area_word, is_listed_term, is_term_word, is_above};
+ghost use Rattle.fields.specs.Valid.{term_order};
 
 use words::{Field, Kind};
 

@@ -11,8 +11,8 @@ use Rattle.words.specs.Answers.{Answer}
 use Rattle.words.proofs.Steps.{row_within}
 use Rattle.words.proofs.Answers.{need_accepted, need_all_accepted}
 use Rattle.words.proofs.Signed.{by_test}
-use Rattle.fields.specs.Words.{most_strata, most_horizon, year_terms, is_size_word, is_depth_word, is_area_word, is_term_word, is_above}
-use Rattle.fields.specs.Valid.{SizesWithin, TermValid, is_listed_term}
+use Rattle.fields.specs.Words.{most_strata, most_horizon, year_terms, is_size_word, is_depth_word, is_area_word, is_listed_term, is_term_word, is_above}
+use Rattle.fields.specs.Valid.{SizesWithin, TermValid}
 use Rattle.fields.specs.declared.Head.{Head}
 use Rattle.fields.specs.Fields.{year_of}
 use Rattle.fields.proofs.Valid.{sizes_within, head_valid, row_valid, cell_valid, term_valid, term_word_by, above_year, rank, rank_below, rank_above}
@@ -113,7 +113,7 @@ module _ (l : List ℕ) (start : ℕ) (rising : (k : ℕ) → start + 1 ≤ k �
       let e : j + (k - j) ≡ k = omega arith in
       rw e at (rise_by j (k - j) low (omega arith))
 
-  -- so where the first and the last are valid, the years of all are
+  -- so where each is valid but for its year, and the first and the last are valid, all are
   pub valid_between : (years : ℕ) → ((k : ℕ) → start ≤ k → k < length l → is_listed_term (get_or l k 0) ≡ true) →
       is_term_word years (get_or l start 0) ≡ true → is_term_word years (get_or l (length l - 1) 0) ≡ true →
       (k : ℕ) → start ≤ k → k < length l → is_term_word years (get_or l k 0) ≡ true

@@ -140,7 +140,8 @@ fn first_invalid_cell_word(listing: &[u32], h: Head, start: usize, end: usize) -
 }
 
 // Whether there are terms, each of them valid and above the one before: without a branch for each
-// word, as above. Their years rise, so that only the first and the last year are tested.
+// word, as above. Where each is above the one before, no year is below the first or above the last, so that
+// only these two are tested for their year.
 fn terms_valid(listing: &[u32], horizon: u32, start: usize) -> bool
     requires { start ≤ length listing.now }
     ensures { result ≡ true →

@@ -65,14 +65,14 @@ site_after_one = 0x80000001 ∷ 0x90000187 ∷ 0xA0000001 ∷ 0xB000002D ∷ 0xC
 abbrev pub site_after_two : List ℕ
 site_after_two = 0x80000002 ∷ 0x900001C8 ∷ 0xA0000001 ∷ 0xB000005A ∷ 0xC00000C8 ∷ []
 
--- what is refused: that listing with least thickness 2,001; the first listing with kind 7 in place of its first row's, and of its word 1's
+-- what is refused: that listing with least thickness 2,001, and with guard 2,001 before a first row of kind 0
 abbrev pub thickness_2001 : List ℕ
 thickness_2001 = 0x10010102 ∷ 0x2014190C ∷ 0x707D07D1 ∷ 0x3460B554 ∷ 0x3460B400 ∷ 0x400107D0 ∷ 0x527101F4 ∷ []
 
--- and guard 2,001 before a first row that is of no kind
 abbrev pub guard_2001 : List ℕ
 guard_2001 = 0x10010102 ∷ 0x2014190C ∷ 0x71F4412C ∷ 0x0460B554 ∷ 0x3460B400 ∷ 0x400107D0 ∷ 0x527101F4 ∷ []
 
+-- and the first listing with kind 7 in place of its first row's, and of its word 1's
 abbrev pub row_of_kind_7 : List ℕ
 row_of_kind_7 = 0x10010102 ∷ 0x2014190C ∷ 0x7460B554 ∷ 0x3460B400 ∷ 0x400107D0 ∷ 0x527101F4 ∷ []
 

@@ -310,6 +310,9 @@ fn site(rt: &impl Print) {
     );
     l[2] = 0x707d_07d1;
     print_check(rt, "least thickness 2,001", &l);
+    l[2] = 0x71f4_412c;
+    l[3] = 0x0460_b554;
+    print_check(rt, "guard 2,001 before a row of kind 0", &l);
 }
 
 // The worked listing with a word of kind 7 for its first row, and then for its word 1.

@@ -1,5 +1,5 @@
 -- `fields::is_listed_term` meets its contract: its tests are the definition's. Assumes nothing.
-use Rattle.fields.specs.Valid.{is_listed_term}
+use Rattle.fields.specs.Words.{is_listed_term}
 use Rattle.fields.proofs.is_listed_term.Goals as goal
 
 pub returns : goal.returns

@@ -1,13 +1,13 @@
--- `listing::terms_valid` meets its contract: while `valid` is true, the first term is valid, each up to `at` is but for its year, and each is above
--- the one before. Assumes nothing.
+-- `listing::terms_valid` meets its contract: while `valid` is true, the first term is valid, each before `at` is valid but for its year, and
+-- each is above the one before. Assumes nothing.
 use mathlib.Core.Path.{◌≡◌}
 use mathlib.Core.Bool.{Bool, true}
 use mathlib.Core.List.{List}
 use Prim.Native.Nat.{ℕ, ◌+◌, ◌-◌, ◌<◌, ◌≤◌}
 use lib.ListN.{length, get_or}
 use Rattle.words.proofs.Steps.{ValidSoFar}
-use Rattle.fields.specs.Words.{is_term_word}
-use Rattle.fields.specs.Valid.{is_listed_term, term_order}
+use Rattle.fields.specs.Words.{is_listed_term, is_term_word}
+use Rattle.fields.specs.Valid.{term_order}
 use Rattle.listing.specs.Check.{term_above}
 use Rattle.listing.proofs.terms_valid.Given as goal
 
