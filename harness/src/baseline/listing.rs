@@ -94,7 +94,7 @@ impl<'a> Listing<'a> {
         self.cells.iter().fold(true, valid)
     }
 
-    /// Numbers 4 and 5 in one pass; the years rise, so that only the first and the last year are tested.
+    /// Numbers 4 and 5 in one pass: where each term is above the one before, no year is below the first or above the last.
     fn terms_valid(&self) -> bool {
         let (mut valid, mut before) = (true, 0);
         for &word in self.terms {
