@@ -303,12 +303,7 @@ pub fn past_range(random: &mut Random, site: &Site) -> (Vec<u32>, &'static str) 
         });
     }
     let (horizon, strata) = (site.horizon, site.tables.len() as u32);
-    if which.starts_with("guard") || which.starts_with("least thickness") {
-        site.site_word.get_or_insert(SiteWord {
-            guard: 2_000,
-            thickness: 2_000,
-        });
-    }
+    let figures = site.figures();
     let cell = random.below(site.cells.len());
     let term = random.below(site.terms.len());
     let (cell, term) = (&mut site.cells[cell], &mut site.terms[term]);
@@ -317,14 +312,18 @@ pub fn past_range(random: &mut Random, site: &Site) -> (Vec<u32>, &'static str) 
         "G 0" => site.warming = 0,
         "G 101" => site.warming = 101,
         "e 101" => site.methane = 101,
-        "guard 2,001" => site
-            .site_word
-            .iter_mut()
-            .for_each(|word| word.guard = 2_001),
-        "least thickness 2,001" => site
-            .site_word
-            .iter_mut()
-            .for_each(|word| word.thickness = 2_001),
+        "guard 2,001" => {
+            site.site_word = Some(SiteWord {
+                guard: 2_001,
+                ..figures
+            })
+        }
+        "least thickness 2,001" => {
+            site.site_word = Some(SiteWord {
+                thickness: 2_001,
+                ..figures
+            })
+        }
         "stratum" => cell.stratum = strata,
         "conversion year" => cell.conversion = horizon + 1,
         "depth 20,001" => cell.entered = 20_001,

@@ -31,11 +31,16 @@ year ox burn kg issued
 left 1710
 ";
 
-/// The worked listing with that word, or another, as word 2.
+/// The worked listing with that word, or another, as word 2, before the tables.
 pub fn with_site_word(word: u32) -> Vec<u32> {
-    let [head @ .., _, _, _, _] = WORKED;
-    let [_, _, rest @ ..] = WORKED;
-    [&head[..], &[word], &rest[..]].concat()
+    [&WORKED[..2], &[word], &WORKED[2..]].concat()
+}
+
+/// The worked listing with another word in place of one of its own.
+pub fn worked_with(place: usize, word: u32) -> Vec<u32> {
+    let mut words = WORKED.to_vec();
+    words[place] = word;
+    words
 }
 
 pub fn directory() -> PathBuf {

@@ -108,13 +108,17 @@ impl Site {
         self.contents().iter().map(Content::word).collect()
     }
 
-    /// The guard, and the least thickness of peat, that its rules go by.
+    /// The guard and the least thickness of peat that its rules go by.
+    pub fn figures(&self) -> SiteWord {
+        self.site_word.unwrap_or(NO_SITE_WORD)
+    }
+
     pub fn guard(&self) -> u32 {
-        self.site_word.unwrap_or(NO_SITE_WORD).guard
+        self.figures().guard
     }
 
     pub fn thickness(&self) -> u32 {
-        self.site_word.unwrap_or(NO_SITE_WORD).thickness
+        self.figures().thickness
     }
 
     /// The words that its book needs, and its lines.

@@ -1,7 +1,7 @@
 //! The worked figures of document 01 and of the requests, the ends of lengths and readings, and the claims on lists where they fail.
 use harness::generate::{self, Random};
 use harness::reference::{self, History};
-use harness::sample::{with_site_word, NEGATIVE_TERM, SITE_WORD, WORKED};
+use harness::sample::{with_site_word, worked_with, NEGATIVE_TERM, SITE_WORD, WORKED};
 use harness::site::{Cell, Row, Site, SiteWord};
 use harness::{Account, Answer, Ledger, Reading, PROVED, REFERENCE};
 
@@ -139,12 +139,6 @@ fn worked_site_word() {
 /// Which word a kind 7 is refused at, and which a site word.
 #[test]
 fn refused_site_words() {
-    let mut first_row = WORKED;
-    first_row[2] = 0x7460_B554;
-    let mut word_1 = WORKED;
-    word_1[1] = 0x7014_190C;
-    let mut word_0 = WORKED;
-    word_0[0] |= 6 << 28;
     let two_site_words = [
         &with_site_word(SITE_WORD)[..3],
         &with_site_word(SITE_WORD)[2..],
@@ -157,9 +151,9 @@ fn refused_site_words() {
         (&with_site_word(0x7FFF_FFFF), 4, 2),
         // Before the word of a table that is invalid.
         (&invalid_row, 4, 2),
-        (&first_row, 3, 6),
-        (&word_1, 2, 1),
-        (&word_0, 2, 0),
+        (&worked_with(2, 0x7460_B554), 3, 6),
+        (&worked_with(1, 0x7014_190C), 2, 1),
+        (&worked_with(0, 0x7001_0102), 2, 0),
         (&two_site_words, 4, 3),
         (&WORKED[..2], 3, 2),
         (&[&WORKED[..], &[SITE_WORD]].concat(), 4, 6),

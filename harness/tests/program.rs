@@ -93,18 +93,13 @@ fn lengths() {
 /// A site word that is out of range, a first row taken for one, and a word 1 of its kind.
 #[test]
 fn refused_site_words() {
-    let mut first_row = sample::WORKED;
-    first_row[2] = 0x7460_B554;
-    let mut word_1 = sample::WORKED;
-    word_1[1] = 0x7014_190C;
-    let thick = sample::with_site_word(0x707D_07D1);
-    let refused: [(&[u32], &str); 3] = [
-        (&thick, "refused 4 2\n"),
-        (&first_row, "refused 3 6\n"),
-        (&word_1, "refused 2 1\n"),
+    let refused = [
+        (sample::with_site_word(0x707D_07D1), "refused 4 2\n"),
+        (sample::worked_with(2, 0x7460_B554), "refused 3 6\n"),
+        (sample::worked_with(1, 0x7014_190C), "refused 2 1\n"),
     ];
     for (words, text) in refused {
-        assert_eq!(peatrun(&sample::bytes(words)), text);
+        assert_eq!(peatrun(&sample::bytes(&words)), text);
     }
 }
 

@@ -75,7 +75,7 @@ thickness_of w = bits w 13 0
 abbrev pub is_site_word : ℕ → Bool
 is_site_word x = is_kind 7 x
 
--- what they are in a listing without it
+-- the guard and the least thickness of a listing without it
 abbrev pub default_guard : ℕ
 default_guard = 400
 

@@ -29,22 +29,18 @@ pub rows_most : {h : Head} → SizesWithin h → h.strata * h.horizon ≤ most_s
 rows_most r = mul-le-mul {n₂ = most_strata} {m₂ = most_horizon} r.strata r.horizon
 
 -- the tables begin at word 2 or 3
-pub tables_least : (h : Head) → least_words ≤ tables_at h
+pub tables_within : (h : Head) → (least_words ≤ tables_at h) × (tables_at h ≤ latest_tables_at)
 unfolding tables_at
-tables_least h = by_test (λ k. least_words ≤ k) h.has_site_word _ _ (λ e. omega arith) (λ e. omega arith)
-
-pub tables_most : (h : Head) → tables_at h ≤ latest_tables_at
-unfolding tables_at
-tables_most h = by_test (λ k. k ≤ latest_tables_at) h.has_site_word _ _ (λ e. omega arith) (λ e. omega arith)
+tables_within h = by_test (λ k. (least_words ≤ k) × (k ≤ latest_tables_at)) h.has_site_word _ _ (λ e. (omega arith, omega arith)) (λ e. (omega arith, omega arith))
 
 contiguous : {h : Head} → SizesWithin h → Contiguous h (offsets_of h)
 unfolding offsets_of
-contiguous {h} r = record { tables = refl; cells = refl; terms = refl; terms_at_most = omega (arith, rows_most r, tables_most h) }
+contiguous {h} r = record { tables = refl; cells = refl; terms = refl; terms_at_most = omega (arith, rows_most r, tables_within h) }
 
 -- where cells and terms begin, for any figures
 pub parts_follow : (h : Head) → (least_words ≤ (offsets_of h).cells) × ((offsets_of h).terms ≡ (offsets_of h).cells + cell_words * h.cells)
 unfolding offsets_of
-parts_follow h = (omega (arith, tables_least h), refl)
+parts_follow h = (omega (arith, tables_within h), refl)
 
 -- of what `head` and `offsets_of` answered, h and s
 pub sizes_by : (l : List ℕ) (h : Head) → h ≡ head l → is_size_word (get_or l 0 0) ≡ true → SizesWithin h
@@ -160,7 +156,7 @@ head_before l a =
     let h = a.head_valid in
     let some : 1 ≤ strata l * horizon l = mul-le-mul {n₁ = 1} {m₁ = 1} h.strata.0 h.horizon.0 in
     let parts = a.parts in
-    omega (arith, tables_least (head l))
+    omega (arith, tables_within (head l))
 
 -- and it is read off them alone
 pub same_head : (l l' : List ℕ) → ((k : ℕ) → k ≤ site_at → get_or l' k 0 ≡ get_or l k 0) → head l' ≡ head l

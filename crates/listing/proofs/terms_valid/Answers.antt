@@ -1,5 +1,5 @@
 -- `listing::terms_valid` meets its contract: the years of terms that rise lie between the first and the last. Assumes nothing.
-use mathlib.Core.Path.{◌≡◌, refl, sym, ap, ap₂, ◌∙◌}
+use mathlib.Core.Path.{◌≡◌, sym, ap, ap₂, ◌∙◌}
 use mathlib.Core.Bool.{Bool, true, ◌&&◌, false≢true}
 use mathlib.Core.List.{List}
 use Prim.Native.Nat.{ℕ, ◌+◌, ◌-◌}
@@ -9,7 +9,7 @@ use lib.Dec.{ltb}
 use lib.ListN.{length, get_or}
 use Rattle.words.proofs.Answers.{and_left, and_right}
 use Rattle.words.proofs.Meaning.{valid_before, first_only}
-use Rattle.words.proofs.Steps.{ValidSoFar, so_far_none, so_far_more, so_far_all}
+use Rattle.words.proofs.Steps.{ValidSoFar, passed_none, passed_more, so_far_none, so_far_more, so_far_all}
 use Rattle.fields.specs.Valid.{term_order}
 use Rattle.fields.proofs.Valid.{above_order, listed_of}
 use Rattle.listing.specs.Check.{term_word_valid, term_above}
@@ -37,7 +37,7 @@ loop-at-init c =
       omega arith,
       order-before l start.args.start _ c.term_order-last.ensures,
       λ t. sym first ∙ t,
-      record { passed = λ t. (so_far_more true true so_far_none (omega arith) (sym (listed_of _ _ (sym first ∙ t)))).passed refl },
+      record { passed = λ t. passed_more passed_none (omega arith) (listed_of _ _ (sym first ∙ t)) },
       so_far_none,
     )
 
