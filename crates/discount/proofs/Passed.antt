@@ -1,8 +1,8 @@
 -- Four lists, one pool at a time from the front: what the loop of `stock_sums` has behind it, and what is left. Assumes nothing.
 use mathlib.Core.Path.{◌≡◌, refl, ap, ◌∙◌}
 use mathlib.Core.Bool.{Bool, true, false}
-use mathlib.Core.List.{List, [], ◌∷◌}
-use Prim.Native.Nat.{ℕ, zero, suc, ◌+◌, ◌*◌, ◌<◌, ◌≤◌}
+use mathlib.Core.List.{List}
+use Prim.Native.Nat.{ℕ, ◌+◌, ◌*◌, ◌<◌, ◌≤◌}
 use native.Mathlib.Numerals.{add-one}
 use native.Mathlib.Omega.{arith}
 use lib.ListN.{length, get_or, drop}
@@ -10,27 +10,14 @@ use lib.Seq.{drop-cons, drop-length}
 use mir.Val.{Fits}
 use mir.Syntax.{w64}
 use borrow.Author.Count.{below_more}
-use borrow.Author.Tests.{leb-true, le-leb}
 use Rattle.std.proofs.lemmas.Bool.Decides.{nat_tests}
-use Rattle.words.proofs.Answers.{and_left, and_right}
-use Rattle.sums.specs.Sums.{sum, all_at_most}
+use Rattle.sums.specs.Sums.{sum}
+use Rattle.sums.proofs.Meaning.{all_at, all_by}
 use Rattle.discount.specs.Discount.{lengths_valid, values_valid, most_value, most_pools}
 use Rattle.discount.specs.Bounds.{pool_valid, TooLarge, StockSums}
 use Rattle.discount.proofs.Bounds.{lengths, bounded}
 
 -- ---- one list
--- all values pass a test where each index does, and the other way round
-all_at : (m : ℕ) (v : List ℕ) (k : ℕ) → all_at_most m v ≡ true → k < length v → get_or v k 0 ≤ m
-unfolding all_at_most
-all_at m [] k h lt = absurd (omega arith)
-all_at m (x ∷ v) zero h lt = leb-true x m (and_left _ _ h)
-all_at m (x ∷ v) (suc k) h lt = all_at m v k (and_right _ _ h) (omega arith)
-
-all_by : (m : ℕ) (v : List ℕ) → ((k : ℕ) → k < length v → get_or v k 0 ≤ m) → all_at_most m v ≡ true
-unfolding all_at_most
-all_by m [] f = refl
-all_by m (x ∷ v) f = rw (le-leb x m (f 0 (omega arith))) (all_by m v (λ k lt. f (suc k) (omega arith)))
-
 -- the first i values add up to `total`, and with what is left that makes the whole
 record Totalled (v : List ℕ) (total i : ℕ) : Type 0 where
   whole : total + sum (drop i v) ≡ sum v

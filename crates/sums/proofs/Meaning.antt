@@ -2,18 +2,31 @@
 use mathlib.Core.Path.{◌≡◌, refl}
 use mathlib.Core.Bool.{true, and-eq-true_iff}
 use mathlib.Core.List.{List, [], ◌∷◌}
-use Prim.Native.Nat.{ℕ, zero, suc, ◌*◌, ◌≤◌}
+use Prim.Native.Nat.{ℕ, zero, suc, ◌*◌, ◌<◌, ◌≤◌}
 use native.Mathlib.Nat.{mul-le-mul, suc-mul, le_refl}
 use native.Mathlib.Omega.{arith}
 use lib.Dec.{leb}
-use lib.ListN.{length, replicate}
-use borrow.Author.Tests.{leb-true}
+use lib.ListN.{length, get_or, replicate}
+use borrow.Author.Tests.{leb-true, le-leb}
+use Rattle.words.proofs.Answers.{and_left, and_right}
 use Rattle.sums.specs.Sums.{weighted, sum, all_at_most}
 
 pub weighted_nothing : (w : List ℕ) → weighted w [] ≡ 0
 unfolding weighted
 weighted_nothing [] = refl
 weighted_nothing (x ∷ w) = refl
+
+-- no value is above m exactly where none is at any index
+pub all_at : (m : ℕ) (v : List ℕ) (k : ℕ) → all_at_most m v ≡ true → k < length v → get_or v k 0 ≤ m
+unfolding all_at_most
+all_at m [] k h lt = absurd (omega arith)
+all_at m (x ∷ v) zero h lt = leb-true x m (and_left _ _ h)
+all_at m (x ∷ v) (suc k) h lt = all_at m v k (and_right _ _ h) (omega arith)
+
+pub all_by : (m : ℕ) (v : List ℕ) → ((k : ℕ) → k < length v → get_or v k 0 ≤ m) → all_at_most m v ≡ true
+unfolding all_at_most
+all_by m [] f = refl
+all_by m (x ∷ v) f = rw (le-leb x m (f 0 (omega arith))) (all_by m v (λ k lt. f (suc k) (omega arith)))
 
 -- by a bound on each list's values and the number of values
 pub weighted_le : (m k : ℕ) (w v : List ℕ) → all_at_most m w ≡ true → all_at_most k v ≡ true → weighted w v ≤ length v * (m * k)

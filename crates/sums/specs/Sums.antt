@@ -7,6 +7,12 @@ weighted [] vs = 0
 weighted (w ∷ ws) [] = 0
 weighted (w ∷ ws) (v ∷ vs) = w * v + weighted ws vs
 
+-- w₀ × v₀, w₁ × v₁, .., as far as both lists go; the weighted sum adds these up (`sum_products` in proofs/Tables.antt)
+unfoldable pub products : List ℕ → List ℕ → List ℕ
+products [] vs = []
+products (w ∷ ws) [] = []
+products (w ∷ ws) (v ∷ vs) = w * v ∷ products ws vs
+
 -- v₀ + v₁ + ..; it is the weighted sum with ones for weights (`weighted_ones` in proofs/Meaning.antt)
 unfoldable pub sum : List ℕ → ℕ
 sum [] = 0

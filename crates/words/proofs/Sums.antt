@@ -2,6 +2,7 @@
 use mathlib.Core.Path.{◌≡◌, refl, sym, ap, ◌∙◌}
 use mathlib.Core.Bool.{cond}
 use Prim.Native.Nat.{ℕ, zero, suc, ◌+◌, ◌*◌, ◌≤◌, ◌<◌}
+use native.Mathlib.Nat.{add-zero, add-suc, zero-mul, suc-mul}
 use native.Mathlib.Numerals.{add-one}
 use native.Mathlib.Omega.{arith}
 use lib.Dec.{eqb}
@@ -29,6 +30,20 @@ pub sum_most : (f : ℕ → ℕ) (m n : ℕ) → ((i : ℕ) → i < n → f i �
 unfolding sum_below
 sum_most f m zero h = omega arith
 sum_most f m (suc n) h = omega (arith, sum_most f m n (λ i p. h i (omega arith)), h n (omega arith))
+
+-- the first n places, and m more
+pub sum_split : (f : ℕ → ℕ) (n m : ℕ) → sum_below f (n + m) ≡ sum_below f n + sum_below (λ i. f (n + i)) m
+unfolding sum_below
+sum_split f n zero = rw (add-zero n) (omega arith)
+sum_split f n (suc m) = rw (add-suc n m) (omega (arith, sum_split f n m))
+
+-- rows of n places each, one after the other
+pub sum_rows : (f : ℕ → ℕ) (n rows : ℕ) → sum_below f (rows * n) ≡ sum_below (λ t. sum_below (λ i. f (t * n + i)) n) rows
+unfolding sum_below
+sum_rows f n zero = rw zero-mul
+sum_rows f n (suc rows) =
+    let e : suc rows * n ≡ rows * n + n = omega (arith, suc-mul rows n) in
+    rw e (sum_split f (rows * n) n ∙ ap (λ (x : ℕ). x + sum_below (λ i. f (rows * n + i)) n) (sum_rows f n rows))
 
 -- ---- in another order
 

@@ -1,5 +1,5 @@
--- Document 01, "Where a call stops": the number of each refusal, in the table's order, and its place. When each is given is stated in the crate
--- that tests it.
+-- Document 01, "Where a call stops", and the change requests: the number of each refusal, in the table's order, and its place. When each is given
+-- is stated in the crate that tests it.
 use Rattle.std.specs.Prelude.{ℕ}
 use Rattle.words.specs.declared.Reason.{Reason}
 use Rattle.words.specs.declared.Reason.TheVariants as reasons
@@ -84,6 +84,14 @@ list_lengths = 19
 abbrev pub value_too_large : ℕ
 value_too_large = 20
 
+-- logged blocks: invalid years, strata or length of a table; 0
+abbrev pub logged_sizes : ℕ
+logged_sizes = 21
+
+-- a value too large; the list, 0–2
+abbrev pub logged_value_too_large : ℕ
+logged_value_too_large = 22
+
 -- the number that each reason of the code stands for
 abbrev pub number_of : Reason → ℕ
 number_of reasons.TooFewWords = too_few_words
@@ -105,3 +113,5 @@ number_of reasons.OutOfRange = out_of_range
 number_of reasons.ReadingMissing = reading_missing
 number_of reasons.ListLengths = list_lengths
 number_of reasons.ValueTooLarge = value_too_large
+number_of reasons.LoggedSizes = logged_sizes
+number_of reasons.LoggedValueTooLarge = logged_value_too_large

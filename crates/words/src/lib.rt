@@ -52,6 +52,10 @@ pub enum Reason {
     ListLengths = 19,
     // A value too large; the list, 0–3.
     ValueTooLarge = 20,
+    // Logged blocks: invalid years, strata or length of a table; place 0.
+    LoggedSizes = 21,
+    // A value too large; the list, 0–2.
+    LoggedValueTooLarge = 22,
 }
 
 // Why a call is refused, and where.
