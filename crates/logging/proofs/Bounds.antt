@@ -1,0 +1,162 @@
+-- The tables of the test, where none is refused: their lengths, their values by index, and what their sums are at most. Assumes nothing.
+use mathlib.Core.Path.{◌≡◌, refl, sym, ap, subst, ◌∙◌}
+use mathlib.Core.Bool.{true}
+use mathlib.Core.List.{List, ◌++◌, append_assoc, append-nil}
+use Prim.Native.Nat.{ℕ, zero, suc, ◌+◌, ◌-◌, ◌*◌, ◌/◌, ◌%◌, ◌<◌, ◌≤◌}
+use native.Mathlib.Nat.{div-lt_iff_lt-mul, mod-lt, mul_comm, mul-le-mul, mul-le-mul_right}
+use native.Mathlib.Omega.{arith}
+use Rattle.std.proofs.lemmas.List.{take_all}
+use Rattle.std.proofs.lemmas.Nat.{div-add-mod'}
+use mir.Val.{Fits}
+use mir.Syntax.{w32}
+use lib.ListN.{length, get_or, take, drop, replicate, length-drop}
+use lib.Seq.{drop_at}
+use native.Mathlib.Numerals.{add-one}
+use Rattle.std.proofs.lemmas.Bool.Decides.{nat_tests}
+use Rattle.words.specs.Bits.{within}
+use Rattle.words.proofs.Answers.{need_accepted}
+use Rattle.words.proofs.Blocks.{length_blocks, block_word}
+use Rattle.sums.specs.Sums.{weighted, products, sum, all_at_most}
+use Rattle.sums.proofs.Meaning.{weighted_ones, weighted_le, sum_le, all_at}
+use Rattle.sums.proofs.Tables.{length_products, product_at, drop_products, products_at_most, drop_at_most, blocks_at_most, sum_products}
+use Rattle.logging.specs.Logging.{each_year, average, from_year_1, left_side, most_years, most_value, sizes_valid, tables_checked}
+use Rattle.logging.specs.Bounds.{Sizes, Accepted, most_densities, most_areas, most_stock, most_area, most_left}
+
+-- a plain sum is the weighted one by as many ones, and more
+pub weighted_by_ones : (v : List ℕ) → length v ≤ most_densities → weighted (replicate most_densities 1) v ≡ sum v
+weighted_by_ones v h = weighted_ones most_densities v h
+
+pub sizes : (T strata densities areas discounts : ℕ) → sizes_valid T strata densities areas discounts ≡ true → Sizes T strata densities areas discounts
+unfolding sizes_valid within
+sizes T strata densities areas discounts h =
+    record {
+      years_from = grind (arith, nat_tests);
+      years_to = grind (arith, nat_tests);
+      strata_from = grind (arith, nat_tests);
+      strata_to = grind (arith, nat_tests);
+      densities_length = grind (arith, nat_tests);
+      areas_length = grind (arith, nat_tests);
+      discounts_length = grind (arith, nat_tests);
+    }
+
+-- and with it tables that pass every test
+pub accepted_by : (T strata : ℕ) (densities areas discounts : List ℕ) → (tables_checked T strata densities areas discounts).done ≡ true → Accepted T densities areas discounts
+unfolding tables_checked
+accepted_by T strata densities areas discounts h =
+    let first = need_accepted _ _ _ _ h in
+    let second = need_accepted _ _ _ _ first.1 in
+    let third = need_accepted _ _ _ _ second.1 in
+    let s = sizes _ _ _ _ _ first.0 in
+    record {
+      sizes = subst (λ (n : ℕ). Sizes T n (length densities) (length areas) (length discounts)) (sym s.discounts_length) s;
+      densities_valid = second.0;
+      areas_valid = third.0;
+      discounts_valid = (need_accepted _ _ _ _ third.1).0;
+    }
+
+-- ---- the discounts of each year
+
+pub length_each_year : (years : ℕ) (u : List ℕ) → length (each_year years u) ≡ years * length u
+length_each_year years u = length_blocks (length u) (λ t. u) (λ i. refl) years ∙ mul_comm (length u) years
+
+-- that of stratum i in year t
+pub each_year_at : (years : ℕ) (u : List ℕ) (t i : ℕ) → t < years → i < length u → get_or (each_year years u) (t * length u + i) 0 ≡ get_or u i 0
+each_year_at years u t i h k =
+    let e : t * length u + i ≡ length u * t + i = omega (arith, mul_comm t (length u)) in
+    ap (λ (n : ℕ). get_or (each_year years u) n 0) e ∙ block_word (length u) (λ n. u) (λ n. refl) years t i h k
+
+-- the same with stratum after stratum and year after year in one index
+pub each_year_by : (years : ℕ) (u : List ℕ) (k : ℕ) → 1 ≤ length u → k < years * length u → get_or (each_year years u) k 0 ≡ get_or u (k % length u) 0
+each_year_by years u k low h =
+    let year : k / length u < years = (div-lt_iff_lt-mul low).1 h in
+    let e : k ≡ k / length u * length u + k % length u = sym (div-add-mod' k (length u)) in
+    ap (λ (n : ℕ). get_or (each_year years u) n 0) e ∙ each_year_at years u (k / length u) (k % length u) year (mod-lt k low)
+
+-- without those of the first year
+each_year_later : (years : ℕ) (u : List ℕ) → drop (length u) (each_year (years + 1) u) ≡ each_year years u
+each_year_later years u = rw (add-one years) (ap (drop (length u)) (first years) ∙ drop_at u _ (length u) refl)
+  where
+    first : (n : ℕ) → each_year (suc n) u ≡ u ++ each_year n u
+    first zero = sym (append-nil u)
+    first (suc n) = ap (λ (x : List ℕ). x ++ u) (first n) ∙ append_assoc u (each_year n u) u
+
+each_year_at_most : (m years : ℕ) (u : List ℕ) → all_at_most m u ≡ true → all_at_most m (each_year years u) ≡ true
+each_year_at_most m years u h = blocks_at_most m (λ t. u) years (λ i. h)
+
+-- ---- the discounted densities of tables that are not refused
+
+module _ {T : ℕ} {densities areas discounts : List ℕ} (a : Accepted T densities areas discounts) where
+  abbrev pub discounted : List ℕ
+  discounted = products (each_year (T + 1) discounts) densities
+
+  lengths : length (each_year (T + 1) discounts) ≡ length densities
+  lengths = length_each_year (T + 1) discounts ∙ sym a.sizes.densities_length
+
+  pub length_discounted : length discounted ≡ length densities
+  length_discounted = length_products _ densities lengths
+
+  -- the one at k
+  pub discounted_at : (k : ℕ) → k < length densities → get_or densities k 0 * get_or discounts (k % length discounts) 0 ≡ get_or discounted k 0
+  discounted_at k h =
+      let e = each_year_by (T + 1) discounts k a.sizes.strata_from (rw a.sizes.densities_length at h) in
+      mul_comm (get_or densities k 0) _ ∙ ap (λ (x : ℕ). x * get_or densities k 0) (sym e) ∙ sym (product_at (each_year (T + 1) discounts) densities k (rw lengths h) h)
+
+  pub discounted_fits : (k : ℕ) → k < length densities → Fits w32 (get_or densities k 0 * get_or discounts (k % length discounts) 0)
+  discounted_fits k h =
+      let density = all_at most_value densities k a.densities_valid h in
+      let discount = all_at most_value discounts (k % length discounts) a.discounts_valid (mod-lt k a.sizes.strata_from) in
+      omega (arith, mul-le-mul density discount)
+
+  -- ---- the sums
+
+  discounted_valid : all_at_most (most_value * most_value) discounted ≡ true
+  discounted_valid = products_at_most most_value most_value _ densities (each_year_at_most most_value (T + 1) discounts a.discounts_valid) a.densities_valid
+
+  pub densities_le : length densities ≤ most_densities
+  densities_le =
+      let years = a.sizes.years_to in
+      let up : T + 1 ≤ most_years + 1 = omega arith in
+      omega (arith, mul-le-mul up a.sizes.strata_to, a.sizes.densities_length)
+
+  pub most_values : length discounted ≤ most_densities
+  most_values = omega (arith, densities_le, length_discounted)
+
+  pub stock_is : sum discounted ≡ (average T densities discounts).numerator
+  stock_is = sum_products (each_year (T + 1) discounts) densities
+
+  pub stock_le : sum discounted ≤ most_stock
+  stock_le = omega (arith, sum_le (most_value * most_value) discounted discounted_valid, mul-le-mul_right (most_value * most_value) most_values)
+
+  pub areas_le : length areas ≤ most_areas
+  areas_le = let most : T * length discounts ≤ most_areas = mul-le-mul a.sizes.years_to a.sizes.strata_to in omega (arith, most, a.sizes.areas_length)
+
+  pub area_le : sum areas ≤ most_area
+  area_le = omega (arith, sum_le most_value areas a.areas_valid, areas_le)
+
+  -- those of years 1 to T
+  pub later : drop (length discounts) discounted ≡ products (each_year T discounts) (from_year_1 densities discounts)
+  later =
+      drop_products (length discounts) (each_year (T + 1) discounts) densities
+      ∙ ap (λ (w : List ℕ). products w (from_year_1 densities discounts)) (each_year_later T discounts)
+
+  pub length_later : length (drop (length discounts) discounted) ≡ length areas
+  length_later =
+      let split : (T + 1) * length discounts ≡ T * length discounts + length discounts = omega arith in
+      rw length-drop (omega (arith, length_discounted, a.sizes.densities_length, a.sizes.areas_length, split))
+
+  -- a slice from there on
+  pub strata_within : length discounts ≤ length discounted
+  strata_within =
+      let split : (T + 1) * length discounts ≡ T * length discounts + length discounts = omega arith in
+      omega (arith, length_discounted, a.sizes.densities_length, split)
+
+  pub later_all : take (length discounted - length discounts) (drop (length discounts) discounted) ≡ drop (length discounts) discounted
+  later_all = take_all _ _ (rw length-drop (omega arith))
+
+  pub left_is : weighted areas (drop (length discounts) discounted) ≡ (left_side T densities areas discounts).numerator
+  left_is = ap (weighted areas) later
+
+  pub left_le : weighted areas (drop (length discounts) discounted) ≤ most_left
+  left_le =
+      let valid = drop_at_most (most_value * most_value) discounted (length discounts) discounted_valid in
+      omega (arith, weighted_le most_value (most_value * most_value) areas _ a.areas_valid valid, length_later, areas_le)

@@ -1,0 +1,4 @@
+-- Laws that the proofs of this crate cite.
+pub mod Bounds
+pub mod Equations
+pub mod Answered

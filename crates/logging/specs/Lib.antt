@@ -1,0 +1,3 @@
+-- What the contracts of logging cite.
+pub mod Logging
+pub mod Bounds
