@@ -1,4 +1,4 @@
-//! Listings, books, calls, floats and pools by a small generator (splitmix64), good and damaged.
+//! Listings, books, calls, floats, pools and logged blocks by a small generator (splitmix64), good and damaged.
 use crate::met::PAST;
 use crate::site::{part, Cell, Row, Site, SiteWord, YearlyTerm};
 use crate::Reading;
@@ -536,4 +536,249 @@ pub fn pools(random: &mut Random) -> [Vec<u32>; 4] {
         lists.iter_mut().for_each(|list| list.resize(length, 1));
     }
     lists
+}
+
+/// What the call of logged blocks takes; years is T.
+#[derive(Clone, Debug)]
+pub struct LoggedBlocks {
+    pub years: u32,
+    pub strata: u32,
+    pub densities: Vec<u32>,
+    pub areas: Vec<u32>,
+    pub discounts: Vec<u32>,
+}
+
+/// The greatest value in the three lists of logged blocks.
+const MOST: u32 = 10_000;
+
+impl LoggedBlocks {
+    /// Lists as long as they should be, with one value throughout.
+    fn of(years: u32, strata: u32, value: u32) -> LoggedBlocks {
+        let [t, i] = [years, strata].map(|count| count as usize);
+        LoggedBlocks {
+            years,
+            strata,
+            densities: vec![value; (t + 1) * i],
+            areas: vec![value; t * i],
+            discounts: vec![value; i],
+        }
+    }
+
+    /// Lists 0 to 2.
+    fn lists(&mut self) -> [&mut Vec<u32>; 3] {
+        [&mut self.densities, &mut self.areas, &mut self.discounts]
+    }
+
+    /// Density times discount, at a place in the list of densities.
+    fn product(&self, place: usize) -> u64 {
+        let discount = self.discounts[place % self.strata as usize];
+        u64::from(self.densities[place]) * u64::from(discount)
+    }
+}
+
+/// Mostly good, and often with the two sides of the test equal or nearly so.
+pub fn logged_blocks(random: &mut Random) -> LoggedBlocks {
+    let mut blocks = good_blocks(random);
+    if random.once_in(4) {
+        // Each fault by itself, or some of them together.
+        for _ in 0..random.pick(&[1, 1, 2, 3]) {
+            match random.between(0, 5) {
+                0 => wrong_size(random, &mut blocks),
+                1 | 2 => wrong_table(random, &mut blocks),
+                _ => value_too_large(random, &mut blocks),
+            }
+        }
+    }
+    blocks
+}
+
+/// Mostly a few years and strata.
+fn good_blocks(random: &mut Random) -> LoggedBlocks {
+    if random.once_in(200) {
+        let (years, strata) = (random.pick(&[1, 100]), random.pick(&[1, 8]));
+        return LoggedBlocks::of(years, strata, random.pick(&[0, MOST]));
+    }
+    let years = match random.between(0, 19) {
+        0 => random.pick(&[1, 100]),
+        1 => random.between(1, 100),
+        2..=5 => random.between(1, 20),
+        _ => random.between(1, 4),
+    };
+    let strata = match random.between(0, 9) {
+        0 => random.pick(&[1, 8]),
+        1..=4 => random.between(1, 8),
+        _ => random.between(1, 3),
+    };
+    let blocks = LoggedBlocks::of(years, strata, 0);
+    match random.between(0, 9) {
+        0..=3 => any_blocks(random, blocks),
+        4..=6 => blocks_of_one_density(random, blocks),
+        _ => blocks_in_proportion(random, blocks),
+    }
+}
+
+/// Each list small or great throughout, mostly 0, or one value at an end of the range.
+fn any_blocks(random: &mut Random, mut blocks: LoggedBlocks) -> LoggedBlocks {
+    for list in blocks.lists() {
+        let most = random.pick(&[3, 40, 1_000, MOST]);
+        if random.once_in(12) {
+            list.fill(random.pick(&[0, MOST]));
+            continue;
+        }
+        let zeros_among = random.pick(&[1, 1, 4]);
+        list.fill_with(|| match random.between(1, zeros_among) {
+            1 => figure(random, 0, most),
+            _ => 0,
+        });
+    }
+    blocks
+}
+
+/// One stratum alone has carbon, and the same in every year from 1 on: the sides are equal where it has none in year 0,
+/// and the average lies a little above what each ha holds where it has some.
+fn blocks_of_one_density(random: &mut Random, mut blocks: LoggedBlocks) -> LoggedBlocks {
+    let strata = blocks.strata as usize;
+    let steady = random.below(strata);
+    let most = random.pick(&[3, 40, 1_000, MOST]);
+    let (density, discount) = (random.between(1, most), random.between(1, MOST));
+    for (place, value) in blocks.densities.iter_mut().enumerate() {
+        // The other strata add nothing to the average, for their discounts stay 0.
+        *value = if place % strata == steady {
+            density
+        } else {
+            random.between(0, most)
+        };
+    }
+    blocks.densities[steady] = match random.between(0, 3) {
+        0 => 0,
+        1 => density,
+        _ => random.between(0, blocks.years),
+    };
+    blocks.discounts[steady] = random.pick(&[1, 8_000, 9_999, MOST, discount]);
+    let area = random.pick(&[1, 30, MOST]);
+    for place in (steady..blocks.areas.len()).step_by(strata) {
+        blocks.areas[place] = random.between(0, area);
+    }
+    change_one_value(random, &mut blocks);
+    blocks
+}
+
+/// A few densities, the greatest mostly above the average, and two areas in the proportion that makes the sides equal.
+fn blocks_in_proportion(random: &mut Random, mut blocks: LoggedBlocks) -> LoggedBlocks {
+    let strata = blocks.strata as usize;
+    let most = random.pick(&[1, 5, 100, MOST]);
+    let least = random.pick(&[1, most]);
+    blocks.discounts.fill_with(|| random.between(least, most));
+    for _ in 0..random.between(1, 5) {
+        let place = random.below(blocks.densities.len());
+        blocks.densities[place] = random.between(1, most);
+    }
+    let places = 0..blocks.densities.len();
+    let products: Vec<u64> = places.map(|place| blocks.product(place)).collect();
+    let total: u64 = products.iter().sum();
+    // Those of years 1 to T, in the order of the areas.
+    let products = &products[strata..];
+    let low = random.below(products.len());
+    let high = (0..products.len()).max_by_key(|&place| products[place]);
+    let high = high.unwrap_or(low);
+    let years = u64::from(blocks.years);
+    // By how much one ha there is above the average, and below it.
+    let above = (years * products[high]).saturating_sub(total);
+    let below = total.saturating_sub(years * products[low]);
+    let (high_area, low_area) = in_proportion(random, below, above);
+    blocks.areas[high] = high_area;
+    // Now and then all of the area is above the average.
+    if !random.once_in(6) {
+        blocks.areas[low] = low_area.max(blocks.areas[low]);
+    }
+    change_one_value(random, &mut blocks);
+    blocks
+}
+
+/// Two areas in the proportion of two numbers: exactly where both fit, else the greater is 10,000 and the other rounded
+/// down. Two numbers of 0 give any area.
+fn in_proportion(random: &mut Random, first: u64, second: u64) -> (u32, u32) {
+    let (mut divisor, mut rest) = (first, second);
+    while rest != 0 {
+        (divisor, rest) = (rest, divisor % rest);
+    }
+    let times = random.between(1, MOST);
+    if divisor == 0 {
+        return (times, times);
+    }
+    let greater = first.max(second) / divisor;
+    let scaled = |number: u64| match u64::from(MOST) / greater {
+        0 => (number / divisor * u64::from(MOST) / greater) as u32,
+        fits => (number / divisor * (1 + u64::from(times) % fits)) as u32,
+    };
+    (scaled(first), scaled(second))
+}
+
+/// Half of the time, one density or area is made one more or one less; if there is one above 0, such a one.
+fn change_one_value(random: &mut Random, blocks: &mut LoggedBlocks) {
+    if random.once_in(2) {
+        return;
+    }
+    let list = if random.once_in(2) {
+        &mut blocks.densities
+    } else {
+        &mut blocks.areas
+    };
+    let places: Vec<usize> = (0..list.len()).filter(|&place| list[place] > 0).collect();
+    let place = match places.len() {
+        0 => random.below(list.len()),
+        above_0 => places[random.below(above_0)],
+    };
+    list[place] = if random.once_in(2) {
+        (list[place] + 1).min(MOST)
+    } else {
+        list[place].saturating_sub(1)
+    };
+}
+
+/// T or the number of strata just or far past an end of its range, mostly with lists as long as that asks.
+fn wrong_size(random: &mut Random, blocks: &mut LoggedBlocks) {
+    if random.once_in(2) {
+        blocks.years = random.pick(&[0, 101, u32::MAX]);
+    } else {
+        blocks.strata = random.pick(&[0, 9, u32::MAX]);
+    }
+    let far = blocks.years > 101 || blocks.strata > 9;
+    if far && random.once_in(4) {
+        blocks.lists().into_iter().for_each(Vec::clear);
+    } else if !far && !random.once_in(4) {
+        let asked = LoggedBlocks::of(blocks.years, blocks.strata, 0);
+        blocks.densities.resize(asked.densities.len(), 1);
+        blocks.areas.resize(asked.areas.len(), 1);
+        blocks.discounts.resize(asked.discounts.len(), 1);
+    }
+}
+
+/// A list longer or shorter by a value, a year or a stratum; or densities without year 0, or areas with it.
+fn wrong_table(random: &mut Random, blocks: &mut LoggedBlocks) {
+    let [year, stratum] = [blocks.strata, blocks.years].map(|count| count.min(101) as usize);
+    let step = random.pick(&[1, 1, year, stratum, stratum + 1]);
+    let list = match random.below(5) {
+        3 => return blocks.densities.truncate(blocks.areas.len()),
+        4 => return blocks.areas.clone_from(&blocks.densities),
+        list => &mut *blocks.lists()[list],
+    };
+    let length = if random.once_in(2) {
+        list.len() + step
+    } else {
+        list.len().saturating_sub(step)
+    };
+    list.resize(length, 1);
+}
+
+/// A value above 10,000 as a list's first, its last or any other.
+fn value_too_large(random: &mut Random, blocks: &mut LoggedBlocks) {
+    let list = random.below(3);
+    let list = &mut *blocks.lists()[list];
+    if list.is_empty() {
+        return;
+    }
+    let any = random.below(list.len());
+    let place = random.pick(&[0, list.len() - 1, any]);
+    list[place] = random.pick(&[MOST + 1, 1 << 16, u32::MAX]);
 }

@@ -32,6 +32,16 @@ pub struct Account {
     pub withdrawn: bool,
 }
 
+/// What the test of logged blocks answers; where it is refused, the average is 0 and the test does not hold.
+#[repr(C)]
+#[derive(Clone, Copy, Debug, Default, PartialEq, Eq)]
+pub struct LoggedAnswer {
+    pub number: u32,
+    pub place: usize,
+    pub average: u32,
+    pub holds: bool,
+}
+
 /// A field reading in metres.
 #[derive(Clone, Copy, Debug)]
 pub enum Reading {
@@ -42,6 +52,9 @@ pub enum Reading {
 
 /// Half-widths of the first class and of the second, then their stocks.
 type Discount = fn(&[u32], &[u32], &[u32], &[u32]) -> Answer;
+
+/// T and the number of strata; carbon densities, areas and discounts.
+type Logged = fn(u32, u32, &[u32], &[u32], &[u32]) -> LoggedAnswer;
 
 /// The calls of one implementation, so that tests can run either in the same way.
 pub struct Ledger {
@@ -54,6 +67,7 @@ pub struct Ledger {
     pub forecast: fn(&[u32], &mut [u32], &mut [u64]) -> Answer,
     pub depth: fn(Reading) -> Answer,
     pub discount: Discount,
+    pub logged: Logged,
 }
 
 pub const PROVED: Ledger = Ledger {
@@ -66,6 +80,7 @@ pub const PROVED: Ledger = Ledger {
     forecast: proved::forecast,
     depth: proved::depth,
     discount: proved::discount,
+    logged: proved::logged,
 };
 
 pub const REFERENCE: Ledger = Ledger {
@@ -78,4 +93,5 @@ pub const REFERENCE: Ledger = Ledger {
     forecast: reference::forecast,
     depth: reference::depth,
     discount: reference::discount,
+    logged: reference::logged,
 };

@@ -2,7 +2,7 @@
 use std::fmt;
 use std::num::FpCategory;
 
-/// What the table counts: each group with its rows. A call has the numbers that document 01's table gives it, and no
+/// What the table counts: each group with its rows. A call has the numbers that documents 01 and 02 give it, and no
 /// other may be counted for it; but for 14 of a closing, which is proved not to arise and would fail the test.
 const GROUPS: &[(&str, &[&str])] = &[
     ("open", &["accepted", "1", "2", "3", "4", "5", "6"]),
@@ -33,6 +33,7 @@ const GROUPS: &[(&str, &[&str])] = &[
     ("levels", &["accepted", "16", "17"]),
     ("missing", &["18"]),
     ("discount", &["accepted", "19", "20"]),
+    ("logged", &["accepted", "21", "22"]),
     ("2 at", &["word 0", "word 1"]),
     (
         "4 at",
@@ -58,6 +59,7 @@ const GROUPS: &[(&str, &[&str])] = &[
     ("16 at", &["place 0", "place 1"]),
     ("17 at", &["place 0", "place 1", "place 2"]),
     ("20 at", &["place 0", "place 1", "place 2", "place 3"]),
+    ("22 at", &["place 0", "place 1", "place 2"]),
     (
         "claim asked",
         &[
@@ -78,6 +80,8 @@ const GROUPS: &[(&str, &[&str])] = &[
             "6 before 7",
             "7 before 8",
             "8 before 9 to 13",
+            "21 before 22",
+            "22 in several lists",
         ],
     ),
     (
@@ -186,6 +190,68 @@ const GROUPS: &[(&str, &[&str])] = &[
             "Q is D D",
             "Q is above D D",
             "a root is taken",
+        ],
+    ),
+    (
+        "21 by",
+        &[
+            "T 0",
+            "T above 100",
+            "no stratum",
+            "more than 8 strata",
+            "densities without year 0",
+            "other densities too few",
+            "densities too many",
+            "areas too few",
+            "areas with a year 0",
+            "other areas too many",
+            "discounts too few",
+            "discounts too many",
+        ],
+    ),
+    (
+        "21, all lists right, by",
+        &["T 0", "T 101", "no stratum", "9 strata"],
+    ),
+    (
+        "22 by",
+        &[
+            "10,001",
+            "4,294,967,295",
+            "a first value",
+            "a last value",
+            "a value between",
+        ],
+    ),
+    (
+        "logged where",
+        &[
+            "both sides are 0",
+            "both sides are equal, above 0",
+            "the left side is greater",
+            "the left side is just greater",
+            "the left side is less",
+            "the left side is just less",
+            "a rounded average would answer otherwise",
+            "an average rounded up would answer otherwise",
+            "years 1 to T alone would answer otherwise",
+        ],
+    ),
+    (
+        "logged with",
+        &[
+            "T 1",
+            "T 100",
+            "1 stratum",
+            "8 strata",
+            "a density of 10,000",
+            "an area of 10,000",
+            "a discount of 0",
+            "a discount of 10,000",
+            "every value the greatest",
+            "no area",
+            "no density",
+            "the average not whole",
         ],
     ),
 ];
@@ -302,9 +368,9 @@ impl Met {
         }
     }
 
-    /// How many answers were counted: the groups down to the discount are calls.
+    /// How many answers were counted: the groups down to the logged blocks are calls.
     pub fn cases(&self) -> u64 {
-        let calls = GROUPS.iter().position(|(name, _)| *name == "discount");
+        let calls = GROUPS.iter().position(|(name, _)| *name == "logged");
         self.0[..=calls.unwrap()].iter().flatten().sum()
     }
 

@@ -1,8 +1,8 @@
 //! Safe wrappers over the proved library: no call asks anything of its caller but valid slices.
-use crate::{Account, Answer, Reading};
+use crate::{Account, Answer, LoggedAnswer, Reading};
 
 pub mod sys {
-    use crate::{Account, Answer};
+    use crate::{Account, Answer, LoggedAnswer};
 
     // As in include/peat.h: a slice is a pointer and then its length.
     unsafe extern "C" {
@@ -69,6 +69,16 @@ pub mod sys {
             second_stocks: *const u32,
             second_stocks_len: usize,
         ) -> Answer;
+        pub fn peat_logged(
+            years: u32,
+            strata: u32,
+            densities: *const u32,
+            densities_len: usize,
+            areas: *const u32,
+            areas_len: usize,
+            discounts: *const u32,
+            discounts_len: usize,
+        ) -> LoggedAnswer;
     }
 }
 
@@ -189,6 +199,28 @@ pub fn discount(
             first_stocks.len(),
             second_stocks.as_ptr(),
             second_stocks.len(),
+        )
+    }
+}
+
+pub fn logged(
+    years: u32,
+    strata: u32,
+    densities: &[u32],
+    areas: &[u32],
+    discounts: &[u32],
+) -> LoggedAnswer {
+    // SAFETY: the three slices are valid for their lengths and only read.
+    unsafe {
+        sys::peat_logged(
+            years,
+            strata,
+            densities.as_ptr(),
+            densities.len(),
+            areas.as_ptr(),
+            areas.len(),
+            discounts.as_ptr(),
+            discounts.len(),
         )
     }
 }

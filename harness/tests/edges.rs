@@ -3,7 +3,7 @@ use harness::generate::{self, Random};
 use harness::reference::{self, History};
 use harness::sample::{with_site_word, worked_with, NEGATIVE_TERM, SITE_WORD, WORKED};
 use harness::site::{Cell, Row, Site, SiteWord};
-use harness::{Account, Answer, Ledger, Reading, PROVED, REFERENCE};
+use harness::{Account, Answer, Ledger, LoggedAnswer, Reading, PROVED, REFERENCE};
 
 fn both(check: impl Fn(&Ledger)) {
     check(&REFERENCE);
@@ -22,6 +22,23 @@ fn refused(number: u32, place: usize) -> Answer {
         number,
         place,
         value: 0,
+    }
+}
+
+/// Of logged blocks: the average, and whether the left side is at least the right.
+fn logged_average(average: u32, holds: bool) -> LoggedAnswer {
+    LoggedAnswer {
+        average,
+        holds,
+        ..LoggedAnswer::default()
+    }
+}
+
+fn logged_refused(number: u32, place: usize) -> LoggedAnswer {
+    LoggedAnswer {
+        number,
+        place,
+        ..LoggedAnswer::default()
     }
 }
 
@@ -317,6 +334,190 @@ fn worked_discounts() {
         let (most, none) = ([20_000; 5], [0; 5]);
         assert_eq!(discount(&most, &none, &most, &none), accepted(5_527));
         assert_eq!(discount(&most, &most, &most, &none), accepted(3_675));
+    });
+}
+
+#[test]
+fn worked_logged_blocks() {
+    both(|ledger| {
+        let logged = ledger.logged;
+        let answer = logged(2, 1, &[100, 50, 30], &[10, 10], &[8_000]);
+        assert_eq!(answer, logged_average(72, false));
+        // 6,460 / 3; 81,750 against 105 ha × 2,153.33.
+        let densities = [1_200, 800, 1_100, 700, 600, 900, 500, 1_000];
+        let areas = [10, 20, 15, 20, 15, 25];
+        let answer = logged(3, 2, &densities, &areas, &[9_000, 10_000]);
+        assert_eq!(answer, logged_average(2_153, false));
+        let answer = logged(3, 2, &[0; 8], &areas, &[9_000, 10_000]);
+        assert_eq!(answer, logged_average(0, true));
+        // Without any area both sides are 0.
+        let answer = logged(3, 2, &densities, &[0; 6], &[9_000, 10_000]);
+        assert_eq!(answer, logged_average(2_153, true));
+    });
+}
+
+/// T 2 and one stratum without a discount taken off: densities and areas, to the average and whether the test holds.
+#[test]
+fn sides_of_logged_blocks() {
+    let rows = [
+        // The average is 1.5, of which 20 ha are 30; rounded it would be met.
+        ([1, 1, 1], [10, 10], 1, false),
+        ([0, 100, 100], [10, 10], 100, true),
+        ([0, 50, 150], [10, 30], 100, true),
+        // 70 against 60, and with the areas exchanged 50.
+        ([0, 10, 20], [1, 3], 15, true),
+        ([0, 10, 20], [3, 1], 15, false),
+        // In year 0 alone another density: 100.5 and 101.
+        ([1, 100, 100], [10, 10], 100, false),
+        ([2, 100, 100], [10, 10], 101, false),
+        // The average is 2.5: 5 against 5, 7 against 7.5, 8 against 7.5.
+        ([0, 2, 3], [1, 1], 2, true),
+        ([0, 2, 3], [2, 1], 2, false),
+        ([0, 2, 3], [1, 2], 2, true),
+    ];
+    both(|ledger| {
+        for (densities, areas, average, holds) in rows {
+            let answer = (ledger.logged)(2, 1, &densities, &areas, &[10_000]);
+            assert_eq!(answer, logged_average(average, holds));
+        }
+    });
+}
+
+/// Each stratum has its own discount and its own place in each year.
+#[test]
+fn strata_of_logged_blocks() {
+    both(|ledger| {
+        let logged = ledger.logged;
+        // 100 at half in year 1 of stratum 0, and 40 in year 2 of stratum 1: the average is 90 / 2.
+        let (densities, discounts) = ([0, 0, 100, 0, 0, 40], [5_000, 10_000]);
+        // 50 + 40 against 2 × 45; 50 + 80 against 3 × 45; 100 + 40 against 3 × 45; areas without carbon.
+        let rows = [
+            ([1, 0, 0, 1], true),
+            ([1, 0, 0, 2], false),
+            ([2, 0, 0, 1], true),
+            ([0, 1, 1, 0], false),
+        ];
+        for (areas, holds) in rows {
+            let answer = logged(2, 2, &densities, &areas, &discounts);
+            assert_eq!(answer, logged_average(45, holds));
+        }
+        // The other way round the average is 100 / 2 + 20 / 2.
+        let answer = logged(2, 2, &densities, &[1, 0, 0, 1], &[10_000, 5_000]);
+        assert_eq!(answer, logged_average(60, true));
+        // Two halves make one: no density is rounded by itself.
+        let answer = logged(1, 2, &[0, 0, 1, 1], &[1, 1], &[5_000; 2]);
+        assert_eq!(answer, logged_average(1, false));
+        // An average of 0.0001, met, and of 0.0002, not met.
+        let answer = logged(1, 1, &[0, 1], &[1], &[1]);
+        assert_eq!(answer, logged_average(0, true));
+        let answer = logged(1, 1, &[1, 1], &[1], &[1]);
+        assert_eq!(answer, logged_average(0, false));
+    });
+}
+
+#[test]
+fn greatest_logged_blocks() {
+    both(|ledger| {
+        let logged = ledger.logged;
+        let most = [10_000; 808];
+        // 101 × 8 × 10^8 / 10^6, and the greatest average of all: 2 × 8 × 10^8 / 10^4.
+        let answer = logged(100, 8, &most, &most[..800], &most[..8]);
+        assert_eq!(answer, logged_average(80_800, false));
+        let answer = logged(1, 8, &most[..16], &most[..8], &most[..8]);
+        assert_eq!(answer, logged_average(160_000, false));
+        // One stratum: 101 × 10^8 / 10^6.
+        let answer = logged(100, 1, &most[..101], &most[..100], &most[..1]);
+        assert_eq!(answer, logged_average(10_100, false));
+        // The last stratum alone, without year 0: 100 × 10^8 / 10^6, and 100 × 10^8 on both sides.
+        let last = |count| [[0; 7].as_slice(), &[10_000]].concat().repeat(count);
+        let mut densities = last(101);
+        densities[7] = 0;
+        let answer = logged(100, 8, &densities, &last(100), &most[..8]);
+        assert_eq!(answer, logged_average(10_000, true));
+        // With one ha more, which has no carbon, or the least density in year 0, the right side is the greater.
+        let mut areas = last(100);
+        areas[0] = 1;
+        let answer = logged(100, 8, &densities, &areas, &most[..8]);
+        assert_eq!(answer, logged_average(10_000, false));
+        densities[0] = 1;
+        let answer = logged(100, 8, &densities, &last(100), &most[..8]);
+        assert_eq!(answer, logged_average(10_000, false));
+    });
+}
+
+/// T and the number of strata past their ranges, and each list by one value, one year or one stratum too long or short.
+#[test]
+fn refused_sizes_of_logged_blocks() {
+    let lists = [0; 1_000];
+    // T, strata, and the lengths of the lists.
+    let rows = [
+        (0, 1, [1, 0, 1]),
+        (101, 1, [102, 101, 1]),
+        (1, 0, [0, 0, 0]),
+        (1, 9, [18, 9, 9]),
+        (101, 8, [816, 808, 8]),
+        (u32::MAX, u32::MAX, [0, 0, 0]),
+        (u32::MAX, 1, [0, 0, 1]),
+        (1, u32::MAX, [0, 0, 0]),
+        (0, 0, [0, 0, 0]),
+        // T × strata is 2^32.
+        (1 << 29, 8, [8, 0, 8]),
+        (2, 3, [8, 6, 3]),
+        (2, 3, [10, 6, 3]),
+        (2, 3, [9, 5, 3]),
+        (2, 3, [9, 7, 3]),
+        (2, 3, [9, 6, 2]),
+        (2, 3, [9, 6, 4]),
+        // Densities without year 0, areas with it, a discount for each year.
+        (2, 3, [6, 6, 3]),
+        (2, 3, [9, 9, 3]),
+        (2, 3, [9, 6, 6]),
+        (3, 2, [9, 6, 3]),
+        (2, 3, [0, 0, 0]),
+    ];
+    both(|ledger| {
+        for (years, strata, lengths) in rows {
+            let [densities, areas, discounts] = lengths.map(|length| &lists[..length]);
+            let answer = (ledger.logged)(years, strata, densities, areas, discounts);
+            assert_eq!(answer, logged_refused(21, 0));
+        }
+        let answer = (ledger.logged)(2, 3, &lists[..9], &lists[..6], &lists[..3]);
+        assert_eq!(answer, logged_average(0, true));
+    });
+}
+
+/// 10,000 is accepted at every place of each list and 10,001 is not, and of several lists the lowest is told.
+#[test]
+fn refused_values_of_logged_blocks() {
+    both(|ledger| {
+        let run = |lists: &[Vec<u32>; 3]| (ledger.logged)(2, 3, &lists[0], &lists[1], &lists[2]);
+        let good = [vec![0; 9], vec![0; 6], vec![0; 3]];
+        for list in 0..3 {
+            for place in 0..good[list].len() {
+                let with = |value| {
+                    let mut lists = good.clone();
+                    lists[list][place] = value;
+                    lists
+                };
+                assert_eq!(run(&with(10_000)), logged_average(0, true));
+                // 65,536 is 0 in its low 16 bits.
+                for value in [10_001, 65_536, 1 << 31, u32::MAX] {
+                    assert_eq!(run(&with(value)), logged_refused(22, list));
+                }
+            }
+        }
+        let mut lists = good.map(|list| vec![10_001; list.len()]);
+        assert_eq!(run(&lists), logged_refused(22, 0));
+        lists[0].fill(10_000);
+        assert_eq!(run(&lists), logged_refused(22, 1));
+        // 21 comes before them all, by T, by the number of strata or by a length.
+        let [densities, areas, discounts] = &lists;
+        for (years, strata) in [(0, 3), (101, 3), (2, 0), (2, 9), (3, 3), (2, 2)] {
+            let answer = (ledger.logged)(years, strata, densities, areas, discounts);
+            assert_eq!(answer, logged_refused(21, 0));
+        }
+        lists[2].pop();
+        assert_eq!(run(&lists), logged_refused(21, 0));
     });
 }
 

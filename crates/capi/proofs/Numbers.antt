@@ -1,4 +1,4 @@
--- Every call's answer has number 0 exactly where it is accepted: a refusal's number is one of the table's, 1 to 20. Assumes nothing.
+-- Every call's answer has number 0 exactly where it is accepted: a refusal's number is one of the table's, 1 to 22. Assumes nothing.
 use mathlib.Core.Path.{refl, sym}
 use mathlib.Core.Bool.{Bool}
 use mathlib.Core.List.{List}
@@ -20,6 +20,7 @@ use Rattle.reading.specs.Depth.{core, levels, depth}
 use Rattle.reading.specs.declared.Reading.{Reading}
 use Rattle.reading.specs.declared.Reading.TheVariants.{Core, Levels, Missing}
 use Rattle.discount.specs.Discount.{discount}
+use Rattle.logging.specs.Logging.{tables_checked, logged}
 use Rattle.capi.specs.Exported.{Numbered, EveryNumber}
 
 -- ---- no test, and one test more
@@ -73,7 +74,7 @@ depth_numbered Missing = record { exactly = refl }
 
 pub every_number : EveryNumber
 unfolding open_effect close_effect close_answer lines_checked year_checked replan_effect replan_answer plan_checked withdraw_effect issue_effect issue_answer statement_answer
-    forecast_effect forecast_answer output_checked discount
+    forecast_effect forecast_answer output_checked discount logged tables_checked
 every_number =
     record {
       of_open = fitted_numbered;
@@ -87,4 +88,5 @@ every_number =
       of_forecast = λ l b x. then _ _ (fitted_numbered l b) (needed _ 15 _ _ (omega arith) (none _));
       of_depth = depth_numbered;
       of_discount = λ a b c d. needed _ 19 _ _ (omega arith) (needed _ 20 _ _ (omega arith) (needed _ 20 _ _ (omega arith) (needed _ 20 _ _ (omega arith) (needed _ 20 _ _ (omega arith) (none _)))));
+      of_logged = λ T n a b c. needed _ 21 _ _ (omega arith) (needed _ 22 _ _ (omega arith) (needed _ 22 _ _ (omega arith) (needed _ 22 _ _ (omega arith) (none _))));
     }

@@ -9,9 +9,11 @@ ghost use Rattle.forecast.specs.Forecast.{forecast_effect};
 ghost use Rattle.reading.specs.Depth.{depth};
 ghost use Rattle.reading.specs.declared.Reading.TheVariants.{Core, Levels, Missing};
 ghost use Rattle.discount.specs.Discount.{discount};
-ghost use Rattle.capi.specs.Exported.{exported, exported_account};
+ghost use Rattle.logging.specs.Logging.{tested, logged};
+ghost use Rattle.capi.specs.Exported.{exported, exported_account, exported_logged};
 
 use ledger::CellFigures;
+use logging::LoggedFigures;
 use words::Refusal;
 
 // The answer of a call, as include/peat.h has it: number 0 where it is accepted, and otherwise the
@@ -37,6 +39,17 @@ pub struct Account {
     pub kg: u32,
     pub plan_year: u32,
     pub withdrawn: bool,
+}
+
+// The answer of the test of logged blocks: number and place as above, the average in tenths of t C per ha,
+// rounded down, and whether the left side of EQ48 is at least its right.
+#[repr(C)]
+#[derive(Clone, Copy, Debug, PartialEq, Eq)]
+pub struct LoggedAnswer {
+    pub number: u32,
+    pub place: usize,
+    pub average: u32,
+    pub holds: bool,
 }
 
 impl From<Result<u32, Refusal>> for Answer {
@@ -93,6 +106,27 @@ impl From<Result<CellFigures, Refusal>> for Account {
                 kg: 0,
                 plan_year: 0,
                 withdrawn: false,
+            },
+        }
+    }
+}
+
+impl From<Result<LoggedFigures, Refusal>> for LoggedAnswer {
+    ghost from_gives = { λ answer a. a ≡ exported_logged (tested answer) };
+
+    fn from(answer: Result<LoggedFigures, Refusal>) -> LoggedAnswer {
+        match answer {
+            Ok(a) => LoggedAnswer {
+                number: 0,
+                place: 0,
+                average: a.average,
+                holds: a.holds,
+            },
+            Err(why) => LoggedAnswer {
+                number: why.reason.number(),
+                place: why.place,
+                average: 0,
+                holds: false,
             },
         }
     }
@@ -191,4 +225,18 @@ pub extern "C" fn peat_discount(
     ensures { result ≡ exported (discount first_widths.now second_widths.now first_stocks.now second_stocks.now) }
 {
     Answer::from(discount::discount(first_widths, second_widths, first_stocks, second_stocks))
+}
+
+// The long-term average of logged blocks, and the test by it.
+#[unsafe(no_mangle)]
+pub extern "C" fn peat_logged(
+    years: u32,
+    strata: u32,
+    densities: &[u32],
+    areas: &[u32],
+    discounts: &[u32],
+) -> LoggedAnswer
+    ensures { result ≡ exported_logged (logged years strata densities.now areas.now discounts.now) }
+{
+    LoggedAnswer::from(logging::logged(years, strata, densities, areas, discounts))
 }

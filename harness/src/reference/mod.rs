@@ -1,6 +1,7 @@
-//! The reference: the peat ledger in plain Rust, to be read beside document 01 ("the paper") and
-//! "Guard and thickness as site figures" of document 02. Document 02 is quoted on the site word,
-//! its guard and least thickness, and the program's limit; all else that is quoted is the paper's.
+//! The reference: the peat ledger in plain Rust, to be read beside document 01 ("the paper"), and
+//! "Guard and thickness as site figures" and "Logged blocks" of document 02. Document 02 is quoted
+//! on the site word, its guard and least thickness, and the program's limit, and on all of logged
+//! blocks, with the draft methodology's EQ34 and EQ48; all else that is quoted is the paper's.
 //!
 //! It is written from these alone and shares no code with the other implementations, only the types
 //! of the answers. Words are converted to i128 when read, and back when written.
@@ -11,8 +12,9 @@
 //! - `year`: "A cell's year";
 //! - `book`, `lines`, `calls`, `balance`: "Book and calls", and the forecast;
 //! - `history`: "Lists of calls";
-//! - `stops`: "Where a call stops";
-//! - `readings`, `discount`, `program`: "Forecast, readings, discount, program".
+//! - `stops`: "Where a call stops", and the numbers of document 02's "Logged blocks";
+//! - `readings`, `discount`, `program`: "Forecast, readings, discount, program";
+//! - `logging`: "Logged blocks" of document 02.
 
 mod balance;
 mod book;
@@ -21,6 +23,7 @@ mod discount;
 mod history;
 mod lines;
 mod listing;
+mod logging;
 mod program;
 mod readings;
 mod stops;
@@ -31,5 +34,6 @@ pub use calls::{close, forecast, issue, open, replan, statement, withdraw};
 pub use discount::discount;
 pub use history::{Fire, History};
 pub use listing::guard;
+pub use logging::logged;
 pub use program::program;
 pub use readings::depth;

@@ -1,4 +1,5 @@
-//! "Where a call stops": a function for each number, answering the lowest place where it is met.
+//! "Where a call stops", and of document 02 the numbers 21 and 22: a function for each number,
+//! answering the lowest place where it is met.
 
 use super::book::{book_words, current_year, entry, word_is_valid};
 use super::lines::lines_words;
@@ -16,6 +17,9 @@ const GREATEST_KG_LINE: i128 = 268_435_455;
 
 /// "a value above 20,000", of the lists of a discount.
 const GREATEST_VALUE: i128 = 20_000;
+
+/// "a value above 10,000", of the lists of logged blocks.
+const GREATEST_LOGGED_VALUE: i128 = 10_000;
 
 /// "Every refusal answers a number and a place": stops where the condition is met at a place.
 pub fn stop(number: u32, place: Option<i128>) -> Result<(), Answer> {
@@ -176,6 +180,29 @@ pub fn wrong_lengths(lists: [&[u32]; 4]) -> Option<i128> {
 
 /// 20: "a value above 20,000", place: list, 0–3.
 pub fn value_too_great(lists: [&[u32]; 4]) -> Option<i128> {
-    let is_too_great = |list: &[u32]| list.iter().any(|&v| i128::from(v) > GREATEST_VALUE);
-    (0..length(&lists)).find(|&place| is_too_great(lists[index(place)]))
+    list_with_a_value_above(GREATEST_VALUE, &lists)
+}
+
+/// 21, of document 02: "T, stratum count or a table's length wrong", place 0, for none is named.
+/// "Input is T (1 to 100), 1 to 8 strata, carbon densities .. for years 0 to T, areas .. for years
+/// 1 to T, and a discount for each stratum .., as lists 0 to 2 in this order."
+pub fn wrong_tables(t: i128, strata: i128, lists: [&[u32]; 3]) -> Option<i128> {
+    let [densities, areas, discounts] = lists.map(length);
+    let valid = (1..=100).contains(&t)
+        && (1..=8).contains(&strata)
+        && densities == (t + 1) * strata
+        && areas == t * strata
+        && discounts == strata;
+    (!valid).then_some(0)
+}
+
+/// 22, of document 02: "a value above 10,000, place its list", 0 to 2.
+pub fn value_above_10_000(lists: [&[u32]; 3]) -> Option<i128> {
+    list_with_a_value_above(GREATEST_LOGGED_VALUE, &lists)
+}
+
+/// The first list that has a value above the greatest.
+fn list_with_a_value_above(greatest: i128, lists: &[&[u32]]) -> Option<i128> {
+    let is_too_great = |list: &[u32]| list.iter().any(|&v| i128::from(v) > greatest);
+    (0..length(lists)).find(|&place| is_too_great(lists[index(place)]))
 }

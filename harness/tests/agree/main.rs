@@ -1,5 +1,6 @@
 //! The proved calls beside the reference: answers and the whole contents of every lent slice, on more than a million
 //! random calls, and document 01's four claims on lists of calls. It prints a table of what was met.
+mod blocks;
 mod books;
 mod lent;
 mod lists;
@@ -12,7 +13,7 @@ use std::time::Instant;
 const LEAST_CASES: u64 = 1_000_000;
 
 /// Each part with its seed, side by side.
-const PARTS: [(fn(u64, &mut Met), u64); 8] = [
+const PARTS: [(fn(u64, &mut Met), u64); 9] = [
     (lists::lists, 1),
     (lists::lists, 11),
     (lists::lists, 12),
@@ -21,6 +22,7 @@ const PARTS: [(fn(u64, &mut Met), u64); 8] = [
     (readings::readings, 4),
     (readings::cores_next_to_whole_millimetres, 0),
     (pools::discounts, 5),
+    (blocks::logged_blocks, 6),
 ];
 
 fn main() {

@@ -1,0 +1,5 @@
+-- `capi::peat_logged` meets its contract: the answer is exported as it is. Assumes nothing.
+use Rattle.capi.proofs.peat_logged.Goals as goal
+
+pub returns : goal.returns
+returns c = rw (c.from.ensures, c.logged.ensures)
