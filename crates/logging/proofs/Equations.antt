@@ -1,8 +1,9 @@
 -- That the definitions are EQ34 and EQ48, by year and stratum, and that their test needs no quotient. Assumes nothing.
 use mathlib.Core.Path.{◌≡◌, sym, ap, ap₂, ◌∙◌}
 use mathlib.Core.Bool.{Bool}
-use mathlib.Core.List.{List}
-use Prim.Native.Nat.{ℕ, ◌+◌, ◌*◌, ◌/◌, ◌<◌}
+use mathlib.Core.List.{List, map}
+use Rattle.std.proofs.lemmas.List.{length-map, get_or-map}
+use Prim.Native.Nat.{ℕ, ◌+◌, ◌-◌, ◌*◌, ◌/◌, ◌<◌}
 use native.Mathlib.Nat.{mul_comm}
 use native.Mathlib.Omega.{arith}
 use lib.Dec.{leb}
@@ -13,10 +14,10 @@ use Rattle.words.specs.Sums.{sum_below}
 use Rattle.words.proofs.Signed.{by_less}
 use Rattle.words.proofs.Steps.{row_within}
 use Rattle.words.proofs.Sums.{sum_same}
-use Rattle.sums.specs.Sums.{products, sum}
+use Rattle.sums.specs.Sums.{weighted, products, sum}
 use Rattle.sums.proofs.Tables.{weighted_by_one, weighted_rows, length_products, product_at}
 use Rattle.logging.specs.declared.LoggedFigures.{LoggedFigures}
-use Rattle.logging.specs.Logging.{each_year, average, from_year_1, left_side, right_side, at_least, figures_of, density, area_after, discount, EveryEquation}
+use Rattle.logging.specs.Logging.{each_year, average, from_year_1, left_side, right_side, at_least, figures_of, density, area, discount, EveryEquation}
 use Rattle.logging.specs.Bounds.{Sizes}
 use Rattle.logging.proofs.Bounds.{sizes, length_each_year, each_year_at}
 
@@ -86,12 +87,22 @@ module _ (T strata : ℕ) (densities areas discounts : List ℕ) (s : Sizes T st
       ∙ ap₂ (λ (u c : ℕ). u * c) (at T t i h k) (later_at t i)
       ∙ mul_comm (discount discounts i) _
 
+  -- area(t, i), and beside it a value for each year and stratum
+  area_at : (t i : ℕ) → get_or areas (t * strata + i) 0 ≡ area strata areas (t + 1) i
+  area_at t i = let e : t ≡ t + 1 - 1 = omega arith in ap (λ (n : ℕ). get_or areas (n * strata + i) 0) e
+
+  by_year : (values : List ℕ) (f : ℕ → ℕ → ℕ) → length values ≡ T * strata → ((t i : ℕ) → t < T → i < strata → get_or values (t * strata + i) 0 ≡ f t i) →
+      weighted areas values ≡ sum_below (λ t. sum_below (λ i. area strata areas (t + 1) i * f t i) strata) T
+  by_year values f sized value =
+      weighted_rows strata T areas values s.areas_length sized ∙ sum_same _ _ T (λ t h. sum_same _ _ strata (λ i k. ap₂ (λ (x y : ℕ). x * y) (area_at t i) (value t i h k)))
+
   left_by_year :
       (left_side T densities areas discounts).numerator
-      ≡ sum_below (λ t. sum_below (λ i. area_after strata areas t i * (density strata densities (t + 1) i * discount discounts i)) strata) T
-  left_by_year =
-      weighted_rows strata T areas _ s.areas_length (length_products (each_year T discounts) (from_year_1 densities discounts) (each_length T ∙ sym later_length) ∙ later_length)
-      ∙ sum_same _ _ T (λ t h. sum_same _ _ strata (λ i k. ap (λ (c : ℕ). area_after strata areas t i * c) (discounted_by_year t i h k)))
+      ≡ sum_below (λ t. sum_below (λ i. area strata areas (t + 1) i * (density strata densities (t + 1) i * discount discounts i)) strata) T
+  left_by_year = by_year _ _ (length_products (each_year T discounts) (from_year_1 densities discounts) (each_length T ∙ sym later_length) ∙ later_length) discounted_by_year
+
+  right_by_year : (p : ℕ) → weighted areas (map (λ area. p) areas) ≡ sum_below (λ t. sum_below (λ i. area strata areas (t + 1) i * p) strata) T
+  right_by_year p = by_year _ (λ t i. p) (length-map areas _ ∙ s.areas_length) (λ t i h k. get_or-map (λ area. p) areas (t * strata + i) 0 0 (omega (arith, inside T t i h k, s.areas_length)))
 
 pub every_equation : EveryEquation
 unfolding figures_of
@@ -100,6 +111,16 @@ every_equation T strata densities areas discounts h =
     record {
       stock = stock_by_year T strata densities areas discounts s;
       left = left_by_year T strata densities areas discounts s;
-      right = right_is T densities areas discounts;
+      right = right_by_year T strata densities areas discounts s (average T densities discounts).numerator;
       exactly = exactly T densities areas discounts;
     }
+
+-- the figures of two sets of tables of T years, where the three sums are the same
+pub same_figures : (T : ℕ) (densities areas discounts densities' areas' discounts' : List ℕ) →
+    (average T densities' discounts').numerator ≡ (average T densities discounts).numerator →
+    (left_side T densities' areas' discounts').numerator ≡ (left_side T densities areas discounts).numerator →
+    (right_side areas' (average T densities' discounts')).numerator ≡ (right_side areas (average T densities discounts)).numerator →
+    figures_of T densities' areas' discounts' ≡ figures_of T densities areas discounts
+unfolding figures_of
+same_figures T densities areas discounts densities' areas' discounts' stock left right =
+    ap₂ (λ (n : ℕ) (b : Bool). record { average = n; holds = b }) (ap (λ (x : ℕ). x / (10000 * T)) stock) (ap₂ (λ (x y : ℕ). leb (x * 10000) (y * (10000 * T))) right left)

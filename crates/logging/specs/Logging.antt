@@ -1,5 +1,5 @@
 -- Document 02, "Logged blocks": the long-term average carbon stock of EQ34, exact, and the test of EQ48, by which it limits term 4.
-use Rattle.std.specs.Prelude.{ℕ, ◌+◌, ◌*◌, ◌/◌, ◌≡◌, Bool, true, false, cond, ◌&&◌, List, map, Result, Ok, Err, leb, eqb, length, drop, get_or}
+use Rattle.std.specs.Prelude.{ℕ, ◌+◌, ◌-◌, ◌*◌, ◌/◌, ◌≡◌, Bool, true, false, cond, ◌&&◌, List, map, Result, Ok, Err, leb, eqb, length, drop, get_or}
 use Rattle.words.specs.Bits.{within}
 use Rattle.words.specs.Blocks.{blocks}
 use Rattle.words.specs.Sums.{sum_below}
@@ -100,25 +100,27 @@ logged T strata densities areas discounts =
 
 -- ---- that these are the equations, by year and stratum
 
--- C(t, i): "densities .. stand year after year, in each year stratum after stratum", from year 0
+-- C(t, i), year t from 0: "densities and areas stand year after year, in each year stratum after stratum"
 abbrev pub density : ℕ → List ℕ → ℕ → ℕ → ℕ
 density strata densities t i = get_or densities (t * strata + i) 0
 
--- area(t + 1, i): areas stand so from year 1
-abbrev pub area_after : ℕ → List ℕ → ℕ → ℕ → ℕ
-area_after strata areas t i = get_or areas (t * strata + i) 0
+-- area(t, i), year t from 1
+abbrev pub area : ℕ → List ℕ → ℕ → ℕ → ℕ
+area strata areas t i = get_or areas ((t - 1) * strata + i) 0
 
 -- u(i)
 abbrev pub discount : List ℕ → ℕ → ℕ
 discount discounts i = get_or discounts i 0
 
--- the sums of EQ34, over years 0 to T, and of EQ48, over years 1 to T, each over all strata; and the test of EQ48 without a quotient
+-- the sum of EQ34, over years 0 to T, and the two of EQ48, over years 1 to T, each over all strata; and the test of EQ48 without a quotient
 pub record Equations (T strata : ℕ) (densities areas discounts : List ℕ) : Type 0 where
   pub stock : (average T densities discounts).numerator ≡ sum_below (λ t. sum_below (λ i. density strata densities t i * discount discounts i) strata) (T + 1)
   pub left :
       (left_side T densities areas discounts).numerator
-      ≡ sum_below (λ t. sum_below (λ i. area_after strata areas t i * (density strata densities (t + 1) i * discount discounts i)) strata) T
-  pub right : (right_side areas (average T densities discounts)).numerator ≡ sum areas * (average T densities discounts).numerator
+      ≡ sum_below (λ t. sum_below (λ i. area strata areas (t + 1) i * (density strata densities (t + 1) i * discount discounts i)) strata) T
+  pub right :
+      (right_side areas (average T densities discounts)).numerator
+      ≡ sum_below (λ t. sum_below (λ i. area strata areas (t + 1) i * (average T densities discounts).numerator) strata) T
   pub exactly :
       (figures_of T densities areas discounts).holds
       ≡ leb (sum areas * (average T densities discounts).numerator) (T * (left_side T densities areas discounts).numerator)

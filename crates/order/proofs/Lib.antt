@@ -9,3 +9,4 @@ pub mod EveryBook
 pub mod EveryOrder
 pub mod Orders
 pub mod EveryForecast
+pub mod Strata
