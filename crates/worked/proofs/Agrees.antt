@@ -22,6 +22,8 @@ use Rattle.ledger.specs.Calls.{open_effect, close_effect, cell_checked, admitted
 use Rattle.reading.specs.Depth.{core, in_depth, levels}
 use Rattle.reading.specs.Metres.{in_core, in_level, mm}
 use Rattle.discount.specs.Discount.{greatest, not_above, factor}
+use Rattle.sums.specs.Sums.{weighted, products, all_at_most}
+use Rattle.logging.specs.Logging as logging
 use Rattle.worked.specs.Worked.{EveryRow}
 
 pub every_row : EveryRow
@@ -30,4 +32,5 @@ unfolding of_bits need need_none after written twos_complement at_least_0 is_kin
     year_mm emission year_loss most_loss is_year_word is_plan_word is_burned_word is_head_word entry_word_valid book_word_valid capacity_checked fitted book_checked admitted joined year issued
     entry_of stored held_words new_book lines_of sum_below peat_tonnes withheld balance_of due closed_lines book_after lines_after lines_checked line_fits year_checked close_answer
     open_effect close_effect cell_checked admitted_cell issue_answer issue_effect figures_of statement_answer core in_depth levels in_core in_level mm greatest not_above factor
+    weighted products all_at_most logging.figures_of logging.sizes_valid logging.tables_checked logging.logged
 every_row = refl

@@ -1,6 +1,6 @@
 -- Document 01, "Worked on paper", and after it the worked figures that came with the change requests: the definitions that the contracts
 -- cite, applied to these figures, in their order. One table, and one theorem that every row agrees; proofs/Agrees.antt proves it.
-use Rattle.std.specs.Prelude.{◌≡◌, false, List, [], ◌∷◌, ◌++◌, map, ℕ, zero, suc, take}
+use Rattle.std.specs.Prelude.{◌≡◌, false, cond, List, [], ◌∷◌, ◌++◌, map, ℕ, zero, suc, ◌+◌, ◌*◌, take}
 use Rattle.std.specs.Float.{binary32}
 use Rattle.std.specs.Float.Ieee.{of_bits}
 use Rattle.fields.specs.declared.Cell.{Cell}
@@ -12,6 +12,7 @@ use Rattle.ledger.specs.Calls.{open_effect, close_effect, issue_effect, statemen
 use Rattle.reading.specs.Depth.{depth}
 use Rattle.reading.specs.declared.Reading.TheVariants.{Core, Levels}
 use Rattle.discount.specs.Discount.{factor}
+use Rattle.logging.specs.Logging.{logged}
 
 -- a row: what the definitions give, and what it was worked out to be
 pub record Row : Type 0 where
@@ -102,6 +103,33 @@ core pattern = (depth (Core (of_bits binary32 pattern))).value ∷ []
 abbrev pub levels : ℕ → ℕ → List ℕ
 levels surface base = (depth (Levels (of_bits binary32 surface) (of_bits binary32 base))).value ∷ []
 
+-- a test of logged blocks: number, place, average, and 1 where the left side is at least the right
+abbrev pub blocks : ℕ → ℕ → List ℕ → List ℕ → List ℕ → List ℕ
+blocks T strata densities areas discounts =
+    let t = logged T strata densities areas discounts in
+    t.answer.number ∷ t.answer.place ∷ t.figures.average ∷ cond t.figures.holds 1 0 ∷ []
+
+-- three years of two strata
+abbrev pub densities : List ℕ
+densities = 1200 ∷ 800 ∷ 1100 ∷ 700 ∷ 600 ∷ 900 ∷ 500 ∷ 1000 ∷ []
+
+abbrev pub areas : List ℕ
+areas = 10 ∷ 20 ∷ 15 ∷ 20 ∷ 15 ∷ 25 ∷ []
+
+abbrev pub discounts : List ℕ
+discounts = 9000 ∷ 10000 ∷ []
+
+-- two years of one stratum with all of its stock
+abbrev pub one_stratum : ℕ → ℕ → ℕ → ℕ → ℕ → List ℕ
+one_stratum c₀ c₁ c₂ a₁ a₂ = blocks 2 1 (c₀ ∷ c₁ ∷ c₂ ∷ []) (a₁ ∷ a₂ ∷ []) (10000 ∷ [])
+
+-- tables of zeros, and a year of one stratum with one density, area and discount
+abbrev pub nothing : ℕ → ℕ → List ℕ
+nothing T strata = blocks T strata (zeros ((T + 1) * strata)) (zeros (T * strata)) (zeros strata)
+
+abbrev pub one_year : ℕ → ℕ → ℕ → List ℕ
+one_year density area discount = blocks 1 1 (density ∷ density ∷ []) (area ∷ []) (discount ∷ [])
+
 abbrev pub rows : List Row
 rows =
     row (burns 700 45 340 2000) (300 ∷ 45 ∷ [])
@@ -130,6 +158,23 @@ rows =
     ∷ row (refusal guard_2001) (4 ∷ 2 ∷ [])
     ∷ row (refusal row_of_kind_7) (3 ∷ 6 ∷ [])
     ∷ row (refusal word_1_of_kind_7) (2 ∷ 1 ∷ [])
+    ∷ row (blocks 2 1 (100 ∷ 50 ∷ 30 ∷ []) (10 ∷ 10 ∷ []) (8000 ∷ [])) (0 ∷ 0 ∷ 72 ∷ 0 ∷ [])
+    ∷ row (blocks 3 2 densities areas discounts) (0 ∷ 0 ∷ 2153 ∷ 0 ∷ [])
+    ∷ row (blocks 3 2 (zeros 8) areas discounts) (0 ∷ 0 ∷ 0 ∷ 1 ∷ [])
+    ∷ row (one_stratum 1 1 1 10 10) (0 ∷ 0 ∷ 1 ∷ 0 ∷ [])
+    ∷ row (one_stratum 0 100 100 10 10) (0 ∷ 0 ∷ 100 ∷ 1 ∷ [])
+    ∷ row (one_stratum 0 50 150 10 30) (0 ∷ 0 ∷ 100 ∷ 1 ∷ [])
+    ∷ row (nothing 0 1) (21 ∷ 0 ∷ 0 ∷ 0 ∷ [])
+    ∷ row (nothing 100 1) (0 ∷ 0 ∷ 0 ∷ 1 ∷ [])
+    ∷ row (nothing 101 1) (21 ∷ 0 ∷ 0 ∷ 0 ∷ [])
+    ∷ row (nothing 1 0) (21 ∷ 0 ∷ 0 ∷ 0 ∷ [])
+    ∷ row (nothing 1 8) (0 ∷ 0 ∷ 0 ∷ 1 ∷ [])
+    ∷ row (nothing 1 9) (21 ∷ 0 ∷ 0 ∷ 0 ∷ [])
+    ∷ row (blocks 1 1 (10001 ∷ []) (10001 ∷ []) (10001 ∷ [])) (21 ∷ 0 ∷ 0 ∷ 0 ∷ [])
+    ∷ row (one_year 10000 10000 10000) (0 ∷ 0 ∷ 20000 ∷ 0 ∷ [])
+    ∷ row (one_year 10001 10001 10001) (22 ∷ 0 ∷ 0 ∷ 0 ∷ [])
+    ∷ row (one_year 10000 10001 10001) (22 ∷ 1 ∷ 0 ∷ 0 ∷ [])
+    ∷ row (one_year 10000 10000 10001) (22 ∷ 2 ∷ 0 ∷ 0 ∷ [])
     ∷ []
 
 -- the theorem

@@ -4,6 +4,7 @@
 #![tactic(auto)]
 
 use book::LINE_WORDS;
+use logging::LoggedFigures;
 use reading::Reading;
 use terms::TermSums;
 use words::{PAYLOAD, Refusal};
@@ -36,6 +37,12 @@ fn print_outcome(rt: &impl Print, name: &str, answer: Result<(), Refusal>) {
 // The answer of a call whose value is an amount.
 fn print_amount(rt: &impl Print, name: &str, answer: Result<u32, Refusal>) {
     print_answer(rt, name, answer, u64::from);
+}
+
+// The average of a test of logged blocks, and 1 where the left side is at least the right.
+fn print_logged(rt: &impl Print, name: &str, answer: Result<LoggedFigures, Refusal>) {
+    print_answer(rt, name, answer, |a| u64::from(a.average));
+    print_answer(rt, "holds", answer, |a| u64::from(a.holds));
 }
 
 fn print_check(rt: &impl Print, name: &str, listing: &[u32]) {
@@ -331,6 +338,80 @@ fn misplaced_site(rt: &impl Print) {
     print_check(rt, "word 1 of kind 7", &l);
 }
 
+// Two years of one stratum with all of its stock.
+fn one_stratum(rt: &impl Print, name: &str, densities: &[u32], areas: &[u32]) {
+    print_logged(rt, name, logging::logged(2, 1, densities, areas, &[10_000]));
+}
+
+// A year of one stratum with one density, area and discount.
+fn one_year(rt: &impl Print, name: &str, density: u32, area: u32, discount: u32) {
+    print_logged(
+        rt,
+        name,
+        logging::logged(1, 1, &[density, density], &[area], &[discount]),
+    );
+}
+
+fn blocks(rt: &impl Print) {
+    print_logged(
+        rt,
+        "T 2 and discount 8,000",
+        logging::logged(2, 1, &[100, 50, 30], &[10, 10], &[8_000]),
+    );
+    let densities = [1_200, 800, 1_100, 700, 600, 900, 500, 1_000];
+    let areas = [10, 20, 15, 20, 15, 25];
+    let discounts = [9_000, 10_000];
+    print_logged(
+        rt,
+        "T 3 and two strata",
+        logging::logged(3, 2, &densities, &areas, &discounts),
+    );
+    print_logged(
+        rt,
+        "all densities 0",
+        logging::logged(3, 2, &[0; 8], &areas, &discounts),
+    );
+    one_stratum(rt, "average 1.5", &[1, 1, 1], &[10, 10]);
+    one_stratum(rt, "equal densities", &[0, 100, 100], &[10, 10]);
+    one_stratum(rt, "more area in year 2", &[0, 50, 150], &[10, 30]);
+}
+
+// T, the number of strata and a value at the ends of their ranges.
+fn block_limits(rt: &impl Print) {
+    let none = [0u32; 102];
+    print_logged(rt, "T 0", logging::logged(0, 1, &none[..1], &[], &[0]));
+    print_logged(
+        rt,
+        "T 100",
+        logging::logged(100, 1, &none[..101], &none[..100], &[0]),
+    );
+    print_logged(
+        rt,
+        "T 101",
+        logging::logged(101, 1, &none, &none[..101], &[0]),
+    );
+    print_logged(rt, "no stratum", logging::logged(1, 0, &[], &[], &[]));
+    print_logged(
+        rt,
+        "8 strata",
+        logging::logged(1, 8, &none[..16], &none[..8], &none[..8]),
+    );
+    print_logged(
+        rt,
+        "9 strata",
+        logging::logged(1, 9, &none[..18], &none[..9], &none[..9]),
+    );
+    print_logged(
+        rt,
+        "one density, and 10,001 throughout",
+        logging::logged(1, 1, &[10_001], &[10_001], &[10_001]),
+    );
+    one_year(rt, "10,000 throughout", 10_000, 10_000, 10_000);
+    one_year(rt, "10,001 throughout", 10_001, 10_001, 10_001);
+    one_year(rt, "10,001 from list 1", 10_000, 10_001, 10_001);
+    one_year(rt, "10,001 in list 2", 10_000, 10_000, 10_001);
+}
+
 fn main(rt: HostRuntime) {
     worked(&rt);
     neighbours(&rt);
@@ -340,4 +421,6 @@ fn main(rt: HostRuntime) {
     discounts(&rt);
     site(&rt);
     misplaced_site(&rt);
+    blocks(&rt);
+    block_limits(&rt);
 }
