@@ -115,12 +115,12 @@ module _ (a b c d : List ℕ) where
       let s = lengths (length a) (length b) (length c) (length d) l in
       record {
         last = λ ha hb hc.
-            let lt = pool_last _ _ _ _ v (all_at most_value a i ha (omega arith)) (all_at most_value b i hb (omega arith)) (all_at most_value c i hc (omega arith)) in
+            let lt = pool_last _ _ _ _ v (all_at most_value a i ha) (all_at most_value b i hb) (all_at most_value c i hc) in
             not_all (values_valid d) refl (omega arith) lt;
       }
     where
       not_all : (t : Bool) → values_valid d ≡ t → i < length d → most_value < get_or d i 0 → t ≡ false
-      not_all true e k lt = let le = all_at most_value d i e k in absurd (omega arith)
+      not_all true e k lt = let le = all_at most_value d i e in absurd (omega arith)
       not_all false e k lt = refl
 
 -- what the needs of the loop are found from

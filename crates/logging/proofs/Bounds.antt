@@ -1,5 +1,5 @@
 -- The tables of the test, where none is refused: their lengths, their values by index, and what their sums are at most. Assumes nothing.
-use mathlib.Core.Path.{◌≡◌, refl, sym, ap, subst, ◌∙◌}
+use mathlib.Core.Path.{◌≡◌, refl, sym, ap, subst, subst⁻¹, ◌∙◌}
 use mathlib.Core.Bool.{true}
 use mathlib.Core.List.{List, ◌++◌, append_assoc, append-nil}
 use Prim.Native.Nat.{ℕ, zero, suc, ◌+◌, ◌-◌, ◌*◌, ◌/◌, ◌%◌, ◌<◌, ◌≤◌}
@@ -8,7 +8,7 @@ use native.Mathlib.Omega.{arith}
 use Rattle.std.proofs.lemmas.List.{take_all}
 use Rattle.std.proofs.lemmas.Nat.{div-add-mod'}
 use mir.Val.{Fits}
-use mir.Syntax.{w32}
+use mir.Syntax.{w32, w64}
 use lib.ListN.{length, get_or, take, drop, replicate, length-drop}
 use lib.Seq.{drop_at}
 use native.Mathlib.Numerals.{add-one}
@@ -17,14 +17,12 @@ use Rattle.words.specs.Bits.{within}
 use Rattle.words.proofs.Answers.{need_accepted}
 use Rattle.words.proofs.Blocks.{length_blocks, block_word}
 use Rattle.sums.specs.Sums.{weighted, products, sum, all_at_most}
-use Rattle.sums.proofs.Meaning.{weighted_ones, weighted_le, sum_le, all_at}
-use Rattle.sums.proofs.Tables.{length_products, product_at, drop_products, products_at_most, drop_at_most, blocks_at_most, sum_products}
-use Rattle.logging.specs.Logging.{each_year, average, from_year_1, left_side, most_years, most_value, sizes_valid, tables_checked}
-use Rattle.logging.specs.Bounds.{Sizes, Accepted, most_densities, most_areas, most_stock, most_area, most_left}
+use Rattle.sums.proofs.Meaning.{weighted_ones, weighted_le, sum_le, all_at, all_by}
+use Rattle.sums.proofs.Tables.{length_products, product_at, drop_products, products_at_most, take_at_most, drop_at_most, blocks_at_most, sum_products}
+use Rattle.logging.specs.Logging.{each_year, average, from_year_1, left_side, most_years, most_value, values_valid, sizes_valid, tables_checked}
+use Rattle.logging.specs.Bounds.{Sizes, Accepted, Discounted, most_densities, most_areas, most_stock, most_area, most_left}
 
--- a plain sum is the weighted one by as many ones, and more
-pub weighted_by_ones : (v : List ℕ) → length v ≤ most_densities → weighted (replicate most_densities 1) v ≡ sum v
-weighted_by_ones v h = weighted_ones most_densities v h
+-- ---- sizes and values that are not refused
 
 pub sizes : (T strata densities areas discounts : ℕ) → sizes_valid T strata densities areas discounts ≡ true → Sizes T strata densities areas discounts
 unfolding sizes_valid within
@@ -53,6 +51,30 @@ accepted_by T strata densities areas discounts h =
       areas_valid = third.0;
       discounts_valid = (need_accepted _ _ _ _ third.1).0;
     }
+
+-- ---- sums
+
+-- a plain sum is the weighted one by as many ones, and more
+pub weighted_by_ones : (v : List ℕ) → length v ≤ most_densities → weighted (replicate most_densities 1) v ≡ sum v
+weighted_by_ones v h = weighted_ones most_densities v h
+
+-- it fits, whatever the 32-bit values are
+pub ones_fit : (v : List ℕ) → length v ≤ most_densities → ((i : ℕ) → Fits w32 (get_or v i 0)) → Fits w64 (weighted (replicate most_densities 1) v)
+ones_fit v h fits = rw (weighted_by_ones v h) (omega (arith, sum_le 4294967295 v (all_by 4294967295 v (λ i lt. let f = fits i in omega arith))))
+
+-- what sums over the values of tables are at most
+pub stock_le : (v : List ℕ) → all_at_most (most_value * most_value) v ≡ true → length v ≤ most_densities → sum v ≤ most_stock
+stock_le v h l = omega (arith, sum_le (most_value * most_value) v h, mul-le-mul_right (most_value * most_value) l)
+
+pub area_le : (v : List ℕ) → values_valid v ≡ true → length v ≤ most_areas → sum v ≤ most_area
+area_le v h l = omega (arith, sum_le most_value v h)
+
+pub left_le : (w v : List ℕ) → values_valid w ≡ true → all_at_most (most_value * most_value) v ≡ true → length v ≤ length w → length w ≤ most_areas → weighted w v ≤ most_left
+left_le w v hw hv l m = omega (arith, weighted_le most_value (most_value * most_value) w v hw hv)
+
+-- what is left of a list from index k on
+pub rest_all : (k : ℕ) (v : List ℕ) → take (length v - k) (drop k v) ≡ drop k v
+rest_all k v = take_all _ _ (rw length-drop (omega arith))
 
 -- ---- the discounts of each year
 
@@ -101,13 +123,9 @@ module _ {T : ℕ} {densities areas discounts : List ℕ} (a : Accepted T densit
       let e = each_year_by (T + 1) discounts k a.sizes.strata_from (rw a.sizes.densities_length at h) in
       mul_comm (get_or densities k 0) _ ∙ ap (λ (x : ℕ). x * get_or densities k 0) (sym e) ∙ sym (product_at (each_year (T + 1) discounts) densities k (rw lengths h) h)
 
-  pub discounted_fits : (k : ℕ) → k < length densities → Fits w32 (get_or densities k 0 * get_or discounts (k % length discounts) 0)
-  discounted_fits k h =
-      let density = all_at most_value densities k a.densities_valid h in
-      let discount = all_at most_value discounts (k % length discounts) a.discounts_valid (mod-lt k a.sizes.strata_from) in
-      omega (arith, mul-le-mul density discount)
-
-  -- ---- the sums
+  -- any density times any discount
+  pub discounted_fits : (k i : ℕ) → Fits w32 (get_or densities k 0 * get_or discounts i 0)
+  discounted_fits k i = omega (arith, mul-le-mul (all_at most_value densities k a.densities_valid) (all_at most_value discounts i a.discounts_valid))
 
   discounted_valid : all_at_most (most_value * most_value) discounted ≡ true
   discounted_valid = products_at_most most_value most_value _ densities (each_year_at_most most_value (T + 1) discounts a.discounts_valid) a.densities_valid
@@ -118,45 +136,21 @@ module _ {T : ℕ} {densities areas discounts : List ℕ} (a : Accepted T densit
       let up : T + 1 ≤ most_years + 1 = omega arith in
       omega (arith, mul-le-mul up a.sizes.strata_to, a.sizes.densities_length)
 
-  pub most_values : length discounted ≤ most_densities
-  most_values = omega (arith, densities_le, length_discounted)
+  pub areas_le : length areas ≤ most_areas
+  areas_le = let most : T * length discounts ≤ most_areas = mul-le-mul a.sizes.years_to a.sizes.strata_to in omega (arith, most, a.sizes.areas_length)
 
   pub stock_is : sum discounted ≡ (average T densities discounts).numerator
   stock_is = sum_products (each_year (T + 1) discounts) densities
 
-  pub stock_le : sum discounted ≤ most_stock
-  stock_le = omega (arith, sum_le (most_value * most_value) discounted discounted_valid, mul-le-mul_right (most_value * most_value) most_values)
-
-  pub areas_le : length areas ≤ most_areas
-  areas_le = let most : T * length discounts ≤ most_areas = mul-le-mul a.sizes.years_to a.sizes.strata_to in omega (arith, most, a.sizes.areas_length)
-
-  pub area_le : sum areas ≤ most_area
-  area_le = omega (arith, sum_le most_value areas a.areas_valid, areas_le)
-
   -- those of years 1 to T
-  pub later : drop (length discounts) discounted ≡ products (each_year T discounts) (from_year_1 densities discounts)
-  later =
-      drop_products (length discounts) (each_year (T + 1) discounts) densities
-      ∙ ap (λ (w : List ℕ). products w (from_year_1 densities discounts)) (each_year_later T discounts)
-
-  pub length_later : length (drop (length discounts) discounted) ≡ length areas
-  length_later =
-      let split : (T + 1) * length discounts ≡ T * length discounts + length discounts = omega arith in
-      rw length-drop (omega (arith, length_discounted, a.sizes.densities_length, a.sizes.areas_length, split))
-
-  -- a slice from there on
-  pub strata_within : length discounts ≤ length discounted
-  strata_within =
-      let split : (T + 1) * length discounts ≡ T * length discounts + length discounts = omega arith in
-      omega (arith, length_discounted, a.sizes.densities_length, split)
-
-  pub later_all : take (length discounted - length discounts) (drop (length discounts) discounted) ≡ drop (length discounts) discounted
-  later_all = take_all _ _ (rw length-drop (omega arith))
-
   pub left_is : weighted areas (drop (length discounts) discounted) ≡ (left_side T densities areas discounts).numerator
-  left_is = ap (weighted areas) later
+  left_is =
+      ap (weighted areas)
+      (drop_products (length discounts) (each_year (T + 1) discounts) densities
+      ∙ ap (λ (w : List ℕ). products w (from_year_1 densities discounts)) (each_year_later T discounts))
 
-  pub left_le : weighted areas (drop (length discounts) discounted) ≤ most_left
-  left_le =
-      let valid = drop_at_most (most_value * most_value) discounted (length discounts) discounted_valid in
-      omega (arith, weighted_le most_value (most_value * most_value) areas _ a.areas_valid valid, length_later, areas_le)
+  pub discounted_by : (v : List ℕ) → v ≡ discounted → Discounted T densities discounts v
+  discounted_by v e = subst⁻¹ (Discounted T densities discounts) e (record { products_are = refl; length_is = length_discounted; at_most = discounted_valid })
+
+-- what the needs of the sums are found from
+pub ruleset bounds = (take_at_most, drop_at_most, densities_le, areas_le, stock_le, area_le, left_le)

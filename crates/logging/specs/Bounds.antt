@@ -1,6 +1,7 @@
 -- What the contracts of private functions cite, and no contract of the call: tables that are not refused, and what their sums are at most.
 use Rattle.std.specs.Prelude.{ℕ, ◌+◌, ◌*◌, ◌≤◌, ◌≡◌, true, List, length}
-use Rattle.logging.specs.Logging.{most_years, most_strata, most_value, values_valid}
+use Rattle.sums.specs.Sums.{products, all_at_most}
+use Rattle.logging.specs.Logging.{each_year, most_years, most_strata, most_value, values_valid}
 
 -- sizes that are not refused: T, the number of strata, and the lengths of the three tables
 pub record Sizes (T strata densities areas discounts : ℕ) : Type 0 where
@@ -35,3 +36,9 @@ most_area = most_areas * most_value
 
 abbrev pub most_left : ℕ
 most_left = most_areas * (most_value * (most_value * most_value))
+
+-- the discounted densities of such tables, of years 0 to T
+pub record Discounted (T : ℕ) (densities discounts discounted : List ℕ) : Type 0 where
+  pub products_are : discounted ≡ products (each_year (T + 1) discounts) densities
+  pub length_is : length discounted ≡ length densities
+  pub at_most : all_at_most (most_value * most_value) discounted ≡ true

@@ -2,11 +2,11 @@
 // whole numbers throughout: the test is made without a quotient.
 #![tactic(auto)]
 
-ghost use Rattle.std.specs.Prelude.{◌≡◌, true, ◌+◌, ◌*◌, ◌/◌, ◌^◌, ◌<◌, ◌≤◌, length, leb};
+ghost use Rattle.std.specs.Prelude.{◌≡◌, true, ◌+◌, ◌*◌, ◌/◌, ◌≤◌, length, leb};
 ghost use Rattle.words.specs.Answers.{outcome};
 ghost use Rattle.sums.specs.Sums.{products, sum};
 ghost use Rattle.logging.specs.Logging.{each_year, most_years, figures_of, sizes_valid, tables_checked, tested, logged};
-ghost use Rattle.logging.specs.Bounds.{Accepted, most_densities, most_stock, most_area, most_left};
+ghost use Rattle.logging.specs.Bounds.{Accepted, most_densities, most_stock, most_area, most_left, Discounted};
 
 use words::{Reason, Refusal, need};
 
@@ -84,9 +84,9 @@ fn figures_from(years: u32, stock: u64, area: u64, left: u64) -> LoggedFigures
 }
 
 // The sum of a table's values: each counts once.
-#[tactic(auto, using(crate::proofs::Bounds::weighted_by_ones))]
+#[tactic(auto, using(crate::proofs::Bounds::weighted_by_ones, crate::proofs::Bounds::ones_fit))]
 fn sum(values: &[u32]) -> u64
-    requires { (length values.now ≤ most_densities) × (sum values.now < 2 ^ 64) }
+    requires { length values.now ≤ most_densities }
     ensures { result ≡ sum values.now }
 {
     sums::weighted_sum(&[1; MOST_DENSITIES], values)
@@ -105,8 +105,9 @@ impl Tables<'_> {
     }
 
     // The figures by the discounted densities: those of years 1 to T stand behind those of year 0.
+    #[tactic(auto, using(crate::proofs::Bounds::bounds))]
     fn figures(&self, discounted: &[u32]) -> LoggedFigures
-        requires { discounted.now ≡ products (each_year (self.now.years + 1) self.now.discounts.now) self.now.densities.now }
+        requires { Discounted self.now.years self.now.densities.now self.now.discounts.now discounted.now }
         ensures { result ≡ figures_of self.now.years self.now.densities.now self.now.areas.now self.now.discounts.now }
     {
         let stock = sum(discounted);

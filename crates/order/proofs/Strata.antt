@@ -9,7 +9,6 @@ use Rattle.std.proofs.lemmas.Nat.{div-add-mod'}
 use lib.ListN.{length, get_or}
 use Rattle.words.specs.Answers.{Answer}
 use Rattle.words.proofs.Answers.{cond_both, need_both, need_accepted}
-use Rattle.words.proofs.Steps.{row_within}
 use Rattle.words.proofs.Sums.{sum_same}
 use Rattle.sums.specs.Sums.{all_at_most}
 use Rattle.sums.proofs.Meaning.{all_at, all_by}
@@ -37,9 +36,8 @@ bounded most n rows x y from within value low sized sized' h =
     (λ k lt.
     let year : k / n < rows = (div-lt_iff_lt-mul low).1 (omega arith) in
     let stratum : k % n < n = mod-lt k low in
-    let there : k / n * n + from (k % n) < length x = omega (arith, row_within (k / n) rows n year, within (k % n) stratum) in
     let same = ap (λ (i : ℕ). get_or y i 0) (sym (div-add-mod' k n)) ∙ value (k / n) (k % n) year stratum in
-    omega (arith, same, all_at most x (k / n * n + from (k % n)) h there))
+    omega (arith, same, all_at most x (k / n * n + from (k % n)) h))
 
 same_valid : {n : ℕ} {o : Order n} {rows : ℕ} {x y : List ℕ} → TableMoved o rows x y → 1 ≤ n → length x ≡ rows * n → values_valid y ≡ values_valid x
 same_valid {n} {o} {rows} {x} {y} e low sized =

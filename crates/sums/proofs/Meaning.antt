@@ -2,7 +2,7 @@
 use mathlib.Core.Path.{◌≡◌, refl}
 use mathlib.Core.Bool.{true, and-eq-true_iff}
 use mathlib.Core.List.{List, [], ◌∷◌}
-use Prim.Native.Nat.{ℕ, zero, suc, ◌*◌, ◌<◌, ◌≤◌}
+use Prim.Native.Nat.{ℕ, zero, suc, zero-le, ◌*◌, ◌<◌, ◌≤◌}
 use native.Mathlib.Nat.{mul-le-mul, suc-mul, le_refl}
 use native.Mathlib.Omega.{arith}
 use lib.Dec.{leb}
@@ -16,12 +16,12 @@ unfolding weighted
 weighted_nothing [] = refl
 weighted_nothing (x ∷ w) = refl
 
--- no value is above m exactly where none is at any index
-pub all_at : (m : ℕ) (v : List ℕ) (k : ℕ) → all_at_most m v ≡ true → k < length v → get_or v k 0 ≤ m
+-- no value is above m exactly where none is at any index; behind the end there is none
+pub all_at : (m : ℕ) (v : List ℕ) (k : ℕ) → all_at_most m v ≡ true → get_or v k 0 ≤ m
 unfolding all_at_most
-all_at m [] k h lt = absurd (omega arith)
-all_at m (x ∷ v) zero h lt = leb-true x m (and_left _ _ h)
-all_at m (x ∷ v) (suc k) h lt = all_at m v k (and_right _ _ h) (omega arith)
+all_at m [] k h = zero-le
+all_at m (x ∷ v) zero h = leb-true x m (and_left _ _ h)
+all_at m (x ∷ v) (suc k) h = all_at m v k (and_right _ _ h)
 
 pub all_by : (m : ℕ) (v : List ℕ) → ((k : ℕ) → k < length v → get_or v k 0 ≤ m) → all_at_most m v ≡ true
 unfolding all_at_most

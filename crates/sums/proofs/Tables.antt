@@ -6,7 +6,7 @@ use Prim.Native.Nat.{ℕ, zero, suc, ◌+◌, ◌*◌, ◌<◌}
 use native.Mathlib.Nat.{mul-le-mul}
 use native.Mathlib.Omega.{arith}
 use lib.Dec.{leb}
-use lib.ListN.{length, get_or, drop}
+use lib.ListN.{length, get_or, take, drop}
 use borrow.Author.Tests.{leb-true, le-leb}
 use Rattle.words.specs.Blocks.{blocks}
 use Rattle.words.specs.Sums.{sum_below}
@@ -64,6 +64,12 @@ unfolding all_at_most
 drop_at_most m v zero h = h
 drop_at_most m [] (suc i) h = refl
 drop_at_most m (x ∷ v) (suc i) h = let s : (leb x m ≡ true) × (all_at_most m v ≡ true) = (and-eq-true_iff _ _).0 h in drop_at_most m v i s.1
+
+pub take_at_most : (m : ℕ) (v : List ℕ) (i : ℕ) → all_at_most m v ≡ true → all_at_most m (take i v) ≡ true
+unfolding all_at_most
+take_at_most m v zero h = refl
+take_at_most m [] (suc i) h = refl
+take_at_most m (x ∷ v) (suc i) h = let s : (leb x m ≡ true) × (all_at_most m v ≡ true) = (and-eq-true_iff _ _).0 h in rw s.0 (take_at_most m v i s.1)
 
 append_at_most : (m : ℕ) (v w : List ℕ) → all_at_most m v ≡ true → all_at_most m w ≡ true → all_at_most m (v ++ w) ≡ true
 unfolding all_at_most

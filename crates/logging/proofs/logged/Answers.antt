@@ -3,7 +3,7 @@ use Rattle.std.proofs.Common.{sym, ap}
 use lib.Seq.{length-take-le}
 use Rattle.words.specs.Answers.{Answer}
 use Rattle.logging.specs.Bounds.{Accepted}
-use Rattle.logging.proofs.Bounds.{accepted_by, densities_le}
+use Rattle.logging.proofs.Bounds.{accepted_by, densities_le, discounted_by}
 use Rattle.logging.proofs.Answered.{logged_refused, logged_passed}
 use Rattle.logging.proofs.logged.Goals as goal
 use Rattle.logging.proofs.logged.Goals.{In_ok-check}
@@ -22,6 +22,9 @@ slice_bounds-discounted-end c = sym (length-take-le _ _ (densities_le (tables (g
 
 pub invariant_of-tables : goal.invariant_of-tables
 invariant_of-tables c = record { accepted = tables (goal.at.invariant_of-tables c).In_ok-check }
+
+pub figures-requires : goal.figures-requires
+figures-requires c = discounted_by (tables (goal.at.figures-requires c).In_ok-check) _ c.discount_densities.ensures
 
 pub returns : goal.returns
 returns c = logged_passed _ _ _ _ _ c.in_ok-check.ensures _ c.figures.ensures

@@ -8,7 +8,7 @@ pub loop-k-init : goal.loop-k-init
 loop-k-init c = filling_none (λ k. refl) (omega (arith, length_discounted c.args.self.now.accepted, c.requires))
 
 pub overflow_mul-discounted : goal.overflow_mul-discounted
-overflow_mul-discounted c = discounted_fits c.args.self.now.accepted c.loop-k.k c.loop-k-test.true
+overflow_mul-discounted c = discounted_fits c.args.self.now.accepted _ _
 
 pub loop-k-preserved : goal.loop-k-preserved
 loop-k-preserved c =
