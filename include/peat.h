@@ -17,9 +17,9 @@
  *   - no pointer is null, not even with length 0: pass the address of any object of that type.
  * Elements beyond those needed are left as they are.
  *
- * Refusals. Number 0 is accepted. Any other number is a refusal: nothing has been written to any slice, and every
- * figure of the answer is 0. The tests run in the order of this table, and the first that fails is answered; where one
- * number has several places, the lowest:
+ * Refusals. Number 0 is accepted. Any other number is a refusal: nothing has been written to any slice, every figure of
+ * the answer is 0, and a flag false. The tests run in the order of this table, and the first that fails is answered;
+ * where one number has several places, the lowest:
  *
  *   no.  met by                condition                                               place
  *    1   every listing         fewer than 2 words                                      0
@@ -45,6 +45,9 @@
  *   18   missing               there is no reading                                     0
  *   19   discount              list lengths unequal, or not 1 to 5                     0
  *   20   discount              a value above 20,000                                    the list, 0 to 3
+ *   21   logged                years not 1 to 100, strata not 1 to 8, or a list not    0
+ *                              as long as they ask
+ *   22   logged                a value above 10,000                                    the list, 0 to 2
  *
  * For a pair of levels 16 is tested on both before 17.
  */
@@ -73,6 +76,14 @@ typedef struct {
     uint32_t entered, remaining, oxidised, burned, kg, plan_year;
     bool withdrawn;
 } peat_account;
+
+/* The test of logged blocks: the average in tenths of t C per ha, rounded down, and whether the test holds. */
+typedef struct {
+    uint32_t number;
+    size_t place;
+    uint32_t average;
+    bool holds;
+} peat_logged_answer;
 
 /* Writes a new book: year 0, nothing issued, the plan years of the listing, no losses. Whatever it held is overwritten. */
 peat_answer peat_open(const uint32_t *listing, size_t listing_len, uint32_t *book, size_t book_len);
@@ -121,6 +132,20 @@ peat_answer peat_missing(void);
 peat_answer peat_discount(const uint32_t *first_widths, size_t first_widths_len, const uint32_t *second_widths,
                           size_t second_widths_len, const uint32_t *first_stocks, size_t first_stocks_len,
                           const uint32_t *second_stocks, size_t second_stocks_len);
+
+/*
+ * Logged blocks: the long-term average carbon stock (EQ34), and the test by which it limits term 4 (EQ48). `years` is
+ * T, the years of the average, 1 to 100; strata are 1 to 8. Three lists, each value 0 to 10,000:
+ *   0, densities  tenths of t C per ha: (years + 1) * strata values, year 0 first, in each year stratum after stratum
+ *   1, areas      ha: years * strata values, year 1 first, in the same way
+ *   2, discounts  ten-thousandths, what the discount call answers: one for each stratum
+ * average: the sum of density * discount of years 0 to T and all strata, / (10,000 * T). holds: over years 1 to T and
+ * all strata, area * discounted density is together at least area * average; the test takes the average unrounded.
+ * Where it holds, term 4 is 0.
+ */
+peat_logged_answer peat_logged(uint32_t years, uint32_t strata, const uint32_t *densities, size_t densities_len,
+                               const uint32_t *areas, size_t areas_len, const uint32_t *discounts,
+                               size_t discounts_len);
 
 #ifdef __cplusplus
 }

@@ -634,8 +634,8 @@ fn any_blocks(random: &mut Random, mut blocks: LoggedBlocks) -> LoggedBlocks {
     blocks
 }
 
-/// One stratum alone has carbon, and the same in every year from 1 on: the sides are equal where it has none in year 0,
-/// and the average lies a little above what each ha holds where it has some.
+/// One stratum alone has a discount above 0, and the same density in every year from 1 on: the sides are equal where it
+/// has none in year 0, and where it has some the average lies above what each ha holds.
 fn blocks_of_one_density(random: &mut Random, mut blocks: LoggedBlocks) -> LoggedBlocks {
     let strata = blocks.strata as usize;
     let steady = random.below(strata);

@@ -252,6 +252,7 @@ const GROUPS: &[(&str, &[&str])] = &[
             "no area",
             "no density",
             "the average not whole",
+            "the strata in another order",
         ],
     ),
 ];

@@ -24,5 +24,9 @@ int main(void) {
     const uint32_t first_width[] = {150}, second_width[] = {1}, first_stock[] = {2000}, second_stock[] = {3000};
     peat_answer discount = peat_discount(first_width, 1, second_width, 1, first_stock, 1, second_stock, 1);
     printf("discount %u\n", discount.value);
+    const uint32_t densities[] = {0, 50, 150}, areas[] = {10, 30}, of_stratum[] = {10000};
+    peat_logged_answer logged = peat_logged(2, 1, densities, 3, areas, 2, of_stratum, 1);
+    peat_logged_answer no_year_0 = peat_logged(2, 1, densities, 2, areas, 2, of_stratum, 1);
+    printf("logged %u %zu: %u %d, without year 0 %u\n", logged.number, logged.place, logged.average, logged.holds, no_year_0.number);
     return 0;
 }

@@ -6,7 +6,7 @@ use Rattle.forecast.specs.Forecast.{forecast_effect}
 use Rattle.reading.specs.Depth.{depth}
 use Rattle.reading.specs.declared.Reading.{Reading}
 use Rattle.discount.specs.Discount.{discount}
-use Rattle.logging.specs.Logging as logging
+use Rattle.logging.specs.Logging.{TestAnswer, logged}
 use Rattle.capi.specs.declared.Answer as c
 use Rattle.capi.specs.declared.Account.{Account}
 use Rattle.capi.specs.declared.LoggedAnswer.{LoggedAnswer}
@@ -31,7 +31,7 @@ exported_account t =
     }
 
 -- number and place of a test of logged blocks, and its figures
-abbrev pub exported_logged : logging.LoggedAnswer → LoggedAnswer
+abbrev pub exported_logged : TestAnswer → LoggedAnswer
 exported_logged t = record { number = t.answer.number; place = t.answer.place; average = t.figures.average; holds = t.figures.holds }
 
 -- ---- what a caller may take number 0 for
@@ -51,4 +51,4 @@ pub record EveryNumber : Type 0 where
   pub of_forecast : (l b x : List ℕ) → Numbered (forecast_effect l b x).answer
   pub of_depth : (reading : Reading) → Numbered (depth reading)
   pub of_discount : (first_widths second_widths first_stocks second_stocks : List ℕ) → Numbered (discount first_widths second_widths first_stocks second_stocks)
-  pub of_logged : (T strata : ℕ) (densities areas discounts : List ℕ) → Numbered (logging.logged T strata densities areas discounts).answer
+  pub of_logged : (T strata : ℕ) (densities areas discounts : List ℕ) → Numbered (logged T strata densities areas discounts).answer

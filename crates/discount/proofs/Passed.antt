@@ -110,18 +110,17 @@ module _ (a b c d : List ℕ) where
         }
 
   -- a pool that is not valid
-  pub pool_stops : (i : ℕ) → lengths_valid (length a) (length b) (length c) (length d) ≡ true → i < length a → at a b c d i ≡ false → TooLarge a b c d
-  pool_stops i l h v =
-      let s = lengths (length a) (length b) (length c) (length d) l in
+  pub pool_stops : (i : ℕ) → at a b c d i ≡ false → TooLarge a b c d
+  pool_stops i v =
       record {
         last = λ ha hb hc.
             let lt = pool_last _ _ _ _ v (all_at most_value a i ha) (all_at most_value b i hb) (all_at most_value c i hc) in
-            not_all (values_valid d) refl (omega arith) lt;
+            not_all (values_valid d) refl lt;
       }
     where
-      not_all : (t : Bool) → values_valid d ≡ t → i < length d → most_value < get_or d i 0 → t ≡ false
-      not_all true e k lt = let le = all_at most_value d i e in absurd (omega arith)
-      not_all false e k lt = refl
+      not_all : (t : Bool) → values_valid d ≡ t → most_value < get_or d i 0 → t ≡ false
+      not_all true e lt = let le = all_at most_value d i e in absurd (omega arith)
+      not_all false e lt = refl
 
 -- what the needs of the loop are found from
 pub ruleset pools = (passed_none, passed_more, passed_fits, passed_all, pool_stops)

@@ -10,10 +10,10 @@ use Rattle.words.specs.Answers.{Answer, accepted, refused}
 use Rattle.words.specs.Refusals.{number_of}
 use Rattle.words.specs.declared.Refusal.{Refusal}
 use Rattle.logging.specs.declared.LoggedFigures.{LoggedFigures}
-use Rattle.logging.specs.Logging.{figures_of, no_figures, tables_checked, LoggedAnswer, tested, logged}
+use Rattle.logging.specs.Logging.{figures_of, no_figures, tables_checked, TestAnswer, tested, logged}
 
 module _ (T strata : ℕ) (densities areas discounts : List ℕ) where
-  abbrev whole : Answer → LoggedAnswer
+  abbrev whole : Answer → TestAnswer
   whole a = record { answer = a; figures = cond a.done (figures_of T densities areas discounts) no_figures }
 
   pub logged_refused : (v : Result LoggedFigures Refusal) (r : Refusal) → IsErrAnd v (λ e. e ≡ r) → refused (number_of r.reason) r.place ≡ tables_checked T strata densities areas discounts →

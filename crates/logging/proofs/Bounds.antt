@@ -147,7 +147,7 @@ module _ {T : ℕ} {densities areas discounts : List ℕ} (a : Accepted T densit
   left_is =
       ap (weighted areas)
       (drop_products (length discounts) (each_year (T + 1) discounts) densities
-      ∙ ap (λ (w : List ℕ). products w (from_year_1 densities discounts)) (each_year_later T discounts))
+      ∙ ap (λ (w : List ℕ). products w (from_year_1 (length discounts) densities)) (each_year_later T discounts))
 
   pub discounted_by : (v : List ℕ) → v ≡ discounted → Discounted T densities discounts v
   discounted_by v e = subst⁻¹ (Discounted T densities discounts) e (record { products_are = refl; length_is = length_discounted; at_most = discounted_valid })

@@ -72,18 +72,18 @@ module _ (T strata : ℕ) (densities areas discounts : List ℕ) (s : Sizes T st
       ∙ sum_same _ _ (T + 1) (λ t h. sum_same _ _ strata (λ i k. ap (λ (u : ℕ). u * density strata densities t i) (at (T + 1) t i h k) ∙ mul_comm (discount discounts i) _))
 
   -- the densities of years 1 to T
-  later_length : length (from_year_1 densities discounts) ≡ T * strata
+  later_length : length (from_year_1 (length discounts) densities) ≡ T * strata
   later_length = let split : (T + 1) * strata ≡ T * strata + strata = omega arith in rw length-drop (omega (arith, s.densities_length, s.discounts_length, split))
 
-  later_at : (t i : ℕ) → get_or (from_year_1 densities discounts) (t * strata + i) 0 ≡ density strata densities (t + 1) i
+  later_at : (t i : ℕ) → get_or (from_year_1 (length discounts) densities) (t * strata + i) 0 ≡ density strata densities (t + 1) i
   later_at t i =
       let e : length discounts + (t * strata + i) ≡ (t + 1) * strata + i = omega (arith, s.discounts_length) in
       get_or-drop (length discounts) densities (t * strata + i) 0 ∙ ap (λ (k : ℕ). get_or densities k 0) e
 
-  discounted_by_year : (t i : ℕ) → t < T → i < strata → get_or (products (each_year T discounts) (from_year_1 densities discounts)) (t * strata + i) 0 ≡ density strata densities (t + 1) i * discount discounts i
+  discounted_by_year : (t i : ℕ) → t < T → i < strata → get_or (products (each_year T discounts) (from_year_1 (length discounts) densities)) (t * strata + i) 0 ≡ density strata densities (t + 1) i * discount discounts i
   discounted_by_year t i h k =
       let lt = inside T t i h k in
-      product_at (each_year T discounts) (from_year_1 densities discounts) (t * strata + i) (omega (arith, lt, each_length T)) (omega (arith, lt, later_length))
+      product_at (each_year T discounts) (from_year_1 (length discounts) densities) (t * strata + i) (omega (arith, lt, each_length T)) (omega (arith, lt, later_length))
       ∙ ap₂ (λ (u c : ℕ). u * c) (at T t i h k) (later_at t i)
       ∙ mul_comm (discount discounts i) _
 
@@ -99,7 +99,7 @@ module _ (T strata : ℕ) (densities areas discounts : List ℕ) (s : Sizes T st
   left_by_year :
       (left_side T densities areas discounts).numerator
       ≡ sum_below (λ t. sum_below (λ i. area strata areas (t + 1) i * (density strata densities (t + 1) i * discount discounts i)) strata) T
-  left_by_year = by_year _ _ (length_products (each_year T discounts) (from_year_1 densities discounts) (each_length T ∙ sym later_length) ∙ later_length) discounted_by_year
+  left_by_year = by_year _ _ (length_products (each_year T discounts) (from_year_1 (length discounts) densities) (each_length T ∙ sym later_length) ∙ later_length) discounted_by_year
 
   right_by_year : (p : ℕ) → weighted areas (map (λ area. p) areas) ≡ sum_below (λ t. sum_below (λ i. area strata areas (t + 1) i * p) strata) T
   right_by_year p = by_year _ (λ t i. p) (length-map areas _ ∙ s.areas_length) (λ t i h k. get_or-map (λ area. p) areas (t * strata + i) 0 0 (omega (arith, inside T t i h k, s.areas_length)))
@@ -110,6 +110,7 @@ every_equation T strata densities areas discounts h =
     let s = sizes _ _ _ _ _ h in
     record {
       stock = stock_by_year T strata densities areas discounts s;
+      answered = ap (λ (x : ℕ). x / (10000 * T)) (stock_by_year T strata densities areas discounts s);
       left = left_by_year T strata densities areas discounts s;
       right = right_by_year T strata densities areas discounts s (average T densities discounts).numerator;
       exactly = exactly T densities areas discounts;

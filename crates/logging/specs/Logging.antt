@@ -1,4 +1,5 @@
--- Document 02, "Logged blocks": the long-term average carbon stock of EQ34, exact, and the test of EQ48, by which it limits term 4.
+-- Document 02, "Logged blocks": the long-term average carbon stock of EQ34, exact, and the test of EQ48, by which it limits term 4. Densities
+-- and the average are "in tenths of t C per ha", areas "in ha", discounts "in ten-thousandths"; T is the number of years.
 use Rattle.std.specs.Prelude.{ℕ, ◌+◌, ◌-◌, ◌*◌, ◌/◌, ◌≡◌, Bool, true, false, cond, ◌&&◌, List, map, Result, Ok, Err, leb, eqb, length, drop, get_or}
 use Rattle.words.specs.Bits.{within}
 use Rattle.words.specs.Blocks.{blocks}
@@ -9,7 +10,7 @@ use Rattle.words.specs.declared.Refusal.{Refusal}
 use Rattle.sums.specs.Sums.{weighted, products, sum, all_at_most}
 use Rattle.logging.specs.declared.LoggedFigures.{LoggedFigures}
 
--- an exact fraction; its denominator is above 0
+-- an exact fraction; its denominator is above 0 wherever T is
 pub record Fraction : Type 0 where
   pub numerator : ℕ
   pub denominator : ℕ
@@ -21,7 +22,7 @@ at_least p q = leb (q.numerator * p.denominator) (p.numerator * q.denominator)
 abbrev pub rounded_down : Fraction → ℕ
 rounded_down p = p.numerator / p.denominator
 
--- a discount for each stratum, the same in each of so many years: "year after year, in each year stratum after stratum"
+-- "a discount for each stratum", once for each of so many years
 abbrev pub each_year : ℕ → List ℕ → List ℕ
 each_year years discounts = blocks (λ t. discounts) years
 
@@ -30,18 +31,20 @@ abbrev pub average : ℕ → List ℕ → List ℕ → Fraction
 average T densities discounts = record { numerator = weighted (each_year (T + 1) discounts) densities; denominator = 10000 * T }
 
 -- the densities of years 1 to T: those of year 0, one for each stratum, stand before them
-abbrev pub from_year_1 : List ℕ → List ℕ → List ℕ
-from_year_1 densities discounts = drop (length discounts) densities
+abbrev pub from_year_1 : ℕ → List ℕ → List ℕ
+from_year_1 strata densities = drop strata densities
 
--- EQ48, the left side: "over years 1 to T and all strata, area × discounted density", its discounts in ten-thousandths
+-- EQ48 has 44/12 on both sides, which is left out, and sums over the crediting period, which is years 1 to T; its average is the same for each
+-- stratum. The left side: "over years 1 to T and all strata, area × discounted density", density × discount / 10,000
 abbrev pub left_side : ℕ → List ℕ → List ℕ → List ℕ → Fraction
-left_side T densities areas discounts = record { numerator = weighted areas (products (each_year T discounts) (from_year_1 densities discounts)); denominator = 10000 }
+left_side T densities areas discounts =
+    record { numerator = weighted areas (products (each_year T discounts) (from_year_1 (length discounts) densities)); denominator = 10000 }
 
--- EQ48, the right side: "area × that one average"
+-- the right side: "area × that one average"
 abbrev pub right_side : List ℕ → Fraction → Fraction
 right_side areas p = record { numerator = weighted areas (map (λ area. p.numerator) areas); denominator = p.denominator }
 
--- "The average is .. exact for the test and rounded down in the answer. The answer says whether its left side is at least its right."
+-- the average "rounded down in the answer", and "whether its left side is at least its right", by the exact average
 unfoldable pub figures_of : ℕ → List ℕ → List ℕ → List ℕ → LoggedFigures
 figures_of T densities areas discounts =
     record {
@@ -79,28 +82,28 @@ tables_checked T strata densities areas discounts =
     (accepted 0))))
 
 -- what the call answers: number and place, and the figures
-pub record LoggedAnswer : Type 0 where
+pub record TestAnswer : Type 0 where
   pub answer : Answer
   pub figures : LoggedFigures
 
--- where it is refused, the average is 0 and the test does not hold
+-- where it is refused, `average` is 0 and `holds` is false
 abbrev pub no_figures : LoggedFigures
 no_figures = record { average = 0; holds = false }
 
 -- the cases of the answer
-abbrev pub tested : Result LoggedFigures Refusal → LoggedAnswer
+abbrev pub tested : Result LoggedFigures Refusal → TestAnswer
 tested (Ok figures) = record { answer = accepted 0; figures = figures }
 tested (Err r) = record { answer = refused (number_of r.reason) r.place; figures = no_figures }
 
--- and for any numbers and lists
-unfoldable pub logged : ℕ → ℕ → List ℕ → List ℕ → List ℕ → LoggedAnswer
+-- what it answers for any T, number of strata and lists
+unfoldable pub logged : ℕ → ℕ → List ℕ → List ℕ → List ℕ → TestAnswer
 logged T strata densities areas discounts =
     let checked = tables_checked T strata densities areas discounts in
     record { answer = checked; figures = cond checked.done (figures_of T densities areas discounts) no_figures }
 
 -- ---- that these are the equations, by year and stratum
 
--- C(t, i), year t from 0: "densities and areas stand year after year, in each year stratum after stratum"
+-- C(t, i), year t from 0: "Densities and areas stand year after year, in each year stratum after stratum."
 abbrev pub density : ℕ → List ℕ → ℕ → ℕ → ℕ
 density strata densities t i = get_or densities (t * strata + i) 0
 
@@ -112,9 +115,12 @@ area strata areas t i = get_or areas ((t - 1) * strata + i) 0
 abbrev pub discount : List ℕ → ℕ → ℕ
 discount discounts i = get_or discounts i 0
 
--- the sum of EQ34, over years 0 to T, and the two of EQ48, over years 1 to T, each over all strata; and the test of EQ48 without a quotient
+-- EQ34, over years 0 to T, and the two sides of EQ48, over years 1 to T, each over all strata; and the test of EQ48 without a quotient
 pub record Equations (T strata : ℕ) (densities areas discounts : List ℕ) : Type 0 where
   pub stock : (average T densities discounts).numerator ≡ sum_below (λ t. sum_below (λ i. density strata densities t i * discount discounts i) strata) (T + 1)
+  pub answered :
+      (figures_of T densities areas discounts).average
+      ≡ sum_below (λ t. sum_below (λ i. density strata densities t i * discount discounts i) strata) (T + 1) / (10000 * T)
   pub left :
       (left_side T densities areas discounts).numerator
       ≡ sum_below (λ t. sum_below (λ i. area strata areas (t + 1) i * (density strata densities (t + 1) i * discount discounts i)) strata) T

@@ -1,13 +1,15 @@
 -- The test of logged blocks answers the same in any order of the strata. Assumes nothing.
 use mathlib.Core.Path.{◌≡◌, refl, sym, ap, ap₂, ◌∙◌}
 use mathlib.Core.Bool.{Bool, true, false}
-use mathlib.Core.List.{List}
+use mathlib.Core.List.{List, [], ◌∷◌}
 use Prim.Native.Nat.{ℕ, ◌+◌, ◌-◌, ◌*◌, ◌/◌, ◌%◌, ◌<◌, ◌≤◌}
-use native.Mathlib.Nat.{div-lt_iff_lt-mul, mod-lt}
+use native.Mathlib.Nat.{div-lt_iff_lt-mul, mod-lt, mul_comm}
 use native.Mathlib.Omega.{arith}
 use Rattle.std.proofs.lemmas.Nat.{div-add-mod'}
 use lib.ListN.{length, get_or}
 use Rattle.words.specs.Answers.{Answer}
+use Rattle.words.specs.Blocks.{blocks}
+use Rattle.words.proofs.Blocks.{length_blocks, block_word}
 use Rattle.words.proofs.Answers.{cond_both, need_both, need_accepted}
 use Rattle.words.proofs.Sums.{sum_same}
 use Rattle.sums.specs.Sums.{all_at_most}
@@ -17,7 +19,7 @@ use Rattle.logging.specs.Logging.{average, left_side, right_side, density, area,
 use Rattle.logging.proofs.Bounds.{sizes}
 use Rattle.logging.proofs.Equations.{every_equation, same_figures}
 use Rattle.order.specs.Order.{Order}
-use Rattle.order.specs.Strata.{TableMoved, EveryStrataOrder}
+use Rattle.order.specs.Strata.{TableMoved, EveryTable, EveryStrataOrder}
 use Rattle.order.proofs.Moved.{from_within, to_within, same_sum}
 
 -- two tests that hold together
@@ -45,6 +47,26 @@ same_valid {n} {o} {rows} {x} {y} e low sized =
     let back : (t m : ℕ) → t < rows → m < n → get_or x (t * n + m) 0 ≡ get_or y (t * n + o.to m) 0 = λ t m h k.
     ap (λ (i : ℕ). get_or x (t * n + i) 0) (sym (o.back m)) ∙ sym (e.value t (o.to m) h (to_within o m k)) in
     both_or_neither _ _ (bounded most_value n rows y x o.to (to_within o) back low sized' sized) (bounded most_value n rows x y o.from (from_within o) e.value low sized sized')
+
+-- one made row by row
+pub every_table : EveryTable
+every_table n o rows x sized =
+    let row : ℕ → List ℕ = λ t. blocks (λ m. get_or x (t * n + o.from m) 0 ∷ []) n in
+    let long : (t : ℕ) → length (row t) ≡ n = λ t. length_blocks 1 (λ m. get_or x (t * n + o.from m) 0 ∷ []) (λ m. refl) n ∙ (omega arith) in
+    record {
+      table = blocks row rows;
+      moved =
+          record {
+            length_is = length_blocks n row long rows ∙ mul_comm n rows ∙ sym sized;
+            value = λ t m h k.
+                let e : t * n + m ≡ n * t + m = omega (arith, mul_comm t n) in
+                let e' : m ≡ 1 * m + 0 = omega arith in
+                ap (λ (i : ℕ). get_or (blocks row rows) i 0) e
+                ∙ block_word n row long rows t m h k
+                ∙ ap (λ (i : ℕ). get_or (row t) i 0) e'
+                ∙ block_word 1 (λ i. get_or x (t * n + o.from i) 0 ∷ []) (λ i. refl) n m 0 k (omega arith);
+          };
+    }
 
 -- ---- the three tables
 

@@ -1,3 +1,4 @@
-// What holds of a project whatever the order of its cells: definitions in specs/, the theorem in proofs/, and no function.
+// What holds whatever the order of a project's cells, or of the strata of logged blocks: definitions in specs/, the theorems in proofs/, and no
+// function.
 
 #![tactic(auto)]

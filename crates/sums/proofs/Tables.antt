@@ -11,7 +11,8 @@ use borrow.Author.Tests.{leb-true, le-leb}
 use Rattle.words.specs.Blocks.{blocks}
 use Rattle.words.specs.Sums.{sum_below}
 use Rattle.words.proofs.Sums.{sum_rows}
-use Rattle.sums.specs.Sums.{weighted, products, sum, all_at_most}
+use Rattle.sums.specs.Sums.{weighted, products, sum, all_at_most, EverySum}
+use Rattle.sums.proofs.Meaning.{weighted_ones}
 
 -- ---- products
 
@@ -109,3 +110,6 @@ weighted_below (suc n) (x ∷ w) (y ∷ v) hw hv =
 pub weighted_rows : (n rows : ℕ) (w v : List ℕ) → length w ≡ rows * n → length v ≡ rows * n →
     weighted w v ≡ sum_below (λ t. sum_below (λ i. get_or w (t * n + i) 0 * get_or v (t * n + i) 0) n) rows
 weighted_rows n rows w v hw hv = weighted_below (rows * n) w v hw hv ∙ sum_rows (λ k. get_or w k 0 * get_or v k 0) n rows
+
+pub every_sum : EverySum
+every_sum = record { of_products = sum_products; of_ones = weighted_ones; of_rows = weighted_rows }

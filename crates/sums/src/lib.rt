@@ -5,8 +5,7 @@
 ghost use Rattle.std.specs.Prelude.{◌≡◌, ◌^◌, ◌<◌, ◌≤◌, length};
 ghost use Rattle.sums.specs.Sums.{weighted, all_at_most};
 
-// Each value times the weight at its place, added up. Weights past the last value count for nothing. Two
-// lists, as C gives a discount's.
+// Each value times the weight at its place, added up. Weights past the last value count for nothing.
 #[tactic(auto, using(crate::proofs::Steps::weighted_here, crate::proofs::Steps::weighted_end))]
 pub fn weighted_sum(weights: &[u32], values: &[u32]) -> u64
     requires { (length values.now ≤ length weights.now) × (weighted weights.now values.now < 2 ^ 64) }

@@ -1,4 +1,4 @@
--- What a call answers, in document 01's own numbers, put together from tests: the first that fails is the answer.
+-- What a call answers, in the papers' own numbers, put together from tests: the first that fails is the answer.
 use Rattle.std.specs.Prelude.{ℕ, Bool, true, false, cond, ltb, Result, Ok, Err}
 use Rattle.words.specs.Search.{first_invalid}
 use Rattle.words.specs.Refusals.{number_of}

@@ -10,8 +10,7 @@ ghost use Rattle.words.specs.Answers.{outcome, accepted, need};
 
 use std::fmt;
 
-// Why a call is refused, by the numbers of "Where a call stops", in the order of its table; 14 is proved not
-// to arise.
+// Why a call is refused, by the numbers of the table of refusals, in its order; 14 is proved not to arise.
 #[derive(Clone, Copy, Debug, PartialEq, Eq)]
 pub enum Reason {
     // Listing: too few words for a head; place 0.

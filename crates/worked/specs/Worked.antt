@@ -1,4 +1,4 @@
--- Document 01, "Worked on paper", and after it the worked figures that came with the change requests: the definitions that the contracts
+-- Document 01, "Worked on paper", and after it what was worked out for the change requests: the definitions that the contracts
 -- cite, applied to these figures, in their order. One table, and one theorem that every row agrees; proofs/Agrees.antt proves it.
 use Rattle.std.specs.Prelude.{◌≡◌, false, cond, List, [], ◌∷◌, ◌++◌, map, ℕ, zero, suc, ◌+◌, ◌*◌, take}
 use Rattle.std.specs.Float.{binary32}
@@ -104,8 +104,8 @@ abbrev pub levels : ℕ → ℕ → List ℕ
 levels surface base = (depth (Levels (of_bits binary32 surface) (of_bits binary32 base))).value ∷ []
 
 -- a test of logged blocks: number, place, average, and 1 where the left side is at least the right
-abbrev pub blocks : ℕ → ℕ → List ℕ → List ℕ → List ℕ → List ℕ
-blocks T strata densities areas discounts =
+abbrev pub logged_test : ℕ → ℕ → List ℕ → List ℕ → List ℕ → List ℕ
+logged_test T strata densities areas discounts =
     let t = logged T strata densities areas discounts in
     t.answer.number ∷ t.answer.place ∷ t.figures.average ∷ cond t.figures.holds 1 0 ∷ []
 
@@ -119,16 +119,24 @@ areas = 10 ∷ 20 ∷ 15 ∷ 20 ∷ 15 ∷ 25 ∷ []
 abbrev pub discounts : List ℕ
 discounts = 9000 ∷ 10000 ∷ []
 
--- two years of one stratum with all of its stock
+-- two years of one stratum, with none taken off
 abbrev pub one_stratum : ℕ → ℕ → ℕ → ℕ → ℕ → List ℕ
-one_stratum c₀ c₁ c₂ a₁ a₂ = blocks 2 1 (c₀ ∷ c₁ ∷ c₂ ∷ []) (a₁ ∷ a₂ ∷ []) (10000 ∷ [])
+one_stratum c₀ c₁ c₂ a₁ a₂ = logged_test 2 1 (c₀ ∷ c₁ ∷ c₂ ∷ []) (a₁ ∷ a₂ ∷ []) (10000 ∷ [])
 
--- tables of zeros, and a year of one stratum with one density, area and discount
-abbrev pub nothing : ℕ → ℕ → List ℕ
-nothing T strata = blocks T strata (zeros ((T + 1) * strata)) (zeros (T * strata)) (zeros strata)
+-- two years of two strata: 100 at half in year 1 of the first, and 40 in year 2 of the second
+abbrev pub two_strata : ℕ → ℕ → ℕ → ℕ → List ℕ
+two_strata a₁ a₂ a₃ a₄ = logged_test 2 2 (0 ∷ 0 ∷ 100 ∷ 0 ∷ 0 ∷ 40 ∷ []) (a₁ ∷ a₂ ∷ a₃ ∷ a₄ ∷ []) (5000 ∷ 10000 ∷ [])
 
+-- lists of zeros: so many densities, areas and discounts, and as many as T and the strata ask
+abbrev pub zeros_of : ℕ → ℕ → ℕ → ℕ → ℕ → List ℕ
+zeros_of T strata x y z = logged_test T strata (zeros x) (zeros y) (zeros z)
+
+abbrev pub all_zero : ℕ → ℕ → List ℕ
+all_zero T strata = zeros_of T strata ((T + 1) * strata) (T * strata) strata
+
+-- a year of one stratum with one density, area and discount
 abbrev pub one_year : ℕ → ℕ → ℕ → List ℕ
-one_year density area discount = blocks 1 1 (density ∷ density ∷ []) (area ∷ []) (discount ∷ [])
+one_year density area discount = logged_test 1 1 (density ∷ density ∷ []) (area ∷ []) (discount ∷ [])
 
 abbrev pub rows : List Row
 rows =
@@ -158,19 +166,26 @@ rows =
     ∷ row (refusal guard_2001) (4 ∷ 2 ∷ [])
     ∷ row (refusal row_of_kind_7) (3 ∷ 6 ∷ [])
     ∷ row (refusal word_1_of_kind_7) (2 ∷ 1 ∷ [])
-    ∷ row (blocks 2 1 (100 ∷ 50 ∷ 30 ∷ []) (10 ∷ 10 ∷ []) (8000 ∷ [])) (0 ∷ 0 ∷ 72 ∷ 0 ∷ [])
-    ∷ row (blocks 3 2 densities areas discounts) (0 ∷ 0 ∷ 2153 ∷ 0 ∷ [])
-    ∷ row (blocks 3 2 (zeros 8) areas discounts) (0 ∷ 0 ∷ 0 ∷ 1 ∷ [])
+    ∷ row (logged_test 2 1 (100 ∷ 50 ∷ 30 ∷ []) (10 ∷ 10 ∷ []) (8000 ∷ [])) (0 ∷ 0 ∷ 72 ∷ 0 ∷ [])
+    ∷ row (logged_test 3 2 densities areas discounts) (0 ∷ 0 ∷ 2153 ∷ 0 ∷ [])
+    ∷ row (logged_test 3 2 (zeros 8) areas discounts) (0 ∷ 0 ∷ 0 ∷ 1 ∷ [])
     ∷ row (one_stratum 1 1 1 10 10) (0 ∷ 0 ∷ 1 ∷ 0 ∷ [])
     ∷ row (one_stratum 0 100 100 10 10) (0 ∷ 0 ∷ 100 ∷ 1 ∷ [])
     ∷ row (one_stratum 0 50 150 10 30) (0 ∷ 0 ∷ 100 ∷ 1 ∷ [])
-    ∷ row (nothing 0 1) (21 ∷ 0 ∷ 0 ∷ 0 ∷ [])
-    ∷ row (nothing 100 1) (0 ∷ 0 ∷ 0 ∷ 1 ∷ [])
-    ∷ row (nothing 101 1) (21 ∷ 0 ∷ 0 ∷ 0 ∷ [])
-    ∷ row (nothing 1 0) (21 ∷ 0 ∷ 0 ∷ 0 ∷ [])
-    ∷ row (nothing 1 8) (0 ∷ 0 ∷ 0 ∷ 1 ∷ [])
-    ∷ row (nothing 1 9) (21 ∷ 0 ∷ 0 ∷ 0 ∷ [])
-    ∷ row (blocks 1 1 (10001 ∷ []) (10001 ∷ []) (10001 ∷ [])) (21 ∷ 0 ∷ 0 ∷ 0 ∷ [])
+    ∷ row (two_strata 1 0 0 1) (0 ∷ 0 ∷ 45 ∷ 1 ∷ [])
+    ∷ row (two_strata 0 1 1 0) (0 ∷ 0 ∷ 45 ∷ 0 ∷ [])
+    ∷ row (all_zero 0 1) (21 ∷ 0 ∷ 0 ∷ 0 ∷ [])
+    ∷ row (all_zero 100 8) (0 ∷ 0 ∷ 0 ∷ 1 ∷ [])
+    ∷ row (all_zero 101 1) (21 ∷ 0 ∷ 0 ∷ 0 ∷ [])
+    ∷ row (all_zero 1 0) (21 ∷ 0 ∷ 0 ∷ 0 ∷ [])
+    ∷ row (all_zero 1 9) (21 ∷ 0 ∷ 0 ∷ 0 ∷ [])
+    ∷ row (zeros_of 2 1 2 2 1) (21 ∷ 0 ∷ 0 ∷ 0 ∷ [])
+    ∷ row (zeros_of 2 1 4 2 1) (21 ∷ 0 ∷ 0 ∷ 0 ∷ [])
+    ∷ row (zeros_of 2 1 3 1 1) (21 ∷ 0 ∷ 0 ∷ 0 ∷ [])
+    ∷ row (zeros_of 2 1 3 3 1) (21 ∷ 0 ∷ 0 ∷ 0 ∷ [])
+    ∷ row (zeros_of 2 1 3 2 0) (21 ∷ 0 ∷ 0 ∷ 0 ∷ [])
+    ∷ row (zeros_of 2 1 3 2 2) (21 ∷ 0 ∷ 0 ∷ 0 ∷ [])
+    ∷ row (logged_test 1 1 (10001 ∷ []) (10001 ∷ []) (10001 ∷ [])) (21 ∷ 0 ∷ 0 ∷ 0 ∷ [])
     ∷ row (one_year 10000 10000 10000) (0 ∷ 0 ∷ 20000 ∷ 0 ∷ [])
     ∷ row (one_year 10001 10001 10001) (22 ∷ 0 ∷ 0 ∷ 0 ∷ [])
     ∷ row (one_year 10000 10001 10001) (22 ∷ 1 ∷ 0 ∷ 0 ∷ [])

@@ -338,9 +338,19 @@ fn misplaced_site(rt: &impl Print) {
     print_check(rt, "word 1 of kind 7", &l);
 }
 
-// Two years of one stratum with all of its stock.
+// Two years of one stratum, with none taken off.
 fn one_stratum(rt: &impl Print, name: &str, densities: &[u32], areas: &[u32]) {
     print_logged(rt, name, logging::logged(2, 1, densities, areas, &[10_000]));
+}
+
+// Two years of two strata: 100 at half in year 1 of the first, and 40 in year 2 of the second.
+fn two_strata(rt: &impl Print, name: &str, areas: &[u32]) {
+    let densities = [0, 0, 100, 0, 0, 40];
+    print_logged(
+        rt,
+        name,
+        logging::logged(2, 2, &densities, areas, &[5_000, 10_000]),
+    );
 }
 
 // A year of one stratum with one density, area and discount.
@@ -374,33 +384,59 @@ fn blocks(rt: &impl Print) {
     one_stratum(rt, "average 1.5", &[1, 1, 1], &[10, 10]);
     one_stratum(rt, "equal densities", &[0, 100, 100], &[10, 10]);
     one_stratum(rt, "more area in year 2", &[0, 50, 150], &[10, 30]);
+    two_strata(rt, "areas where there is carbon", &[1, 0, 0, 1]);
+    two_strata(rt, "areas where there is none", &[0, 1, 1, 0]);
 }
 
-// T, the number of strata and a value at the ends of their ranges.
-fn block_limits(rt: &impl Print) {
-    let none = [0u32; 102];
-    print_logged(rt, "T 0", logging::logged(0, 1, &none[..1], &[], &[0]));
+// T and the number of strata at the ends of their ranges, with lists of zeros as long as they ask.
+fn block_sizes(rt: &impl Print) {
+    let zeros = [0u32; 808];
+    print_logged(rt, "T 0", logging::logged(0, 1, &zeros[..1], &[], &[0]));
     print_logged(
         rt,
-        "T 100",
-        logging::logged(100, 1, &none[..101], &none[..100], &[0]),
+        "T 100 and 8 strata",
+        logging::logged(100, 8, &zeros, &zeros[..800], &zeros[..8]),
     );
     print_logged(
         rt,
         "T 101",
-        logging::logged(101, 1, &none, &none[..101], &[0]),
+        logging::logged(101, 1, &zeros[..102], &zeros[..101], &[0]),
     );
     print_logged(rt, "no stratum", logging::logged(1, 0, &[], &[], &[]));
     print_logged(
         rt,
-        "8 strata",
-        logging::logged(1, 8, &none[..16], &none[..8], &none[..8]),
-    );
-    print_logged(
-        rt,
         "9 strata",
-        logging::logged(1, 9, &none[..18], &none[..9], &none[..9]),
+        logging::logged(1, 9, &zeros[..18], &zeros[..9], &zeros[..9]),
     );
+}
+
+// T 2 and one stratum, with each list in turn one value too short and too long.
+fn block_lengths(rt: &impl Print) {
+    let lengths = [
+        (2, 2, 1),
+        (4, 2, 1),
+        (3, 1, 1),
+        (3, 3, 1),
+        (3, 2, 0),
+        (3, 2, 2),
+    ];
+    let zeros = [0u32; 4];
+    for &(densities, areas, discounts) in &lengths {
+        print_logged(
+            rt,
+            "a wrong length",
+            logging::logged(
+                2,
+                1,
+                &zeros[..densities],
+                &zeros[..areas],
+                &zeros[..discounts],
+            ),
+        );
+    }
+}
+
+fn block_values(rt: &impl Print) {
     print_logged(
         rt,
         "one density, and 10,001 throughout",
@@ -422,5 +458,7 @@ fn main(rt: HostRuntime) {
     site(&rt);
     misplaced_site(&rt);
     blocks(&rt);
-    block_limits(&rt);
+    block_sizes(&rt);
+    block_lengths(&rt);
+    block_values(&rt);
 }

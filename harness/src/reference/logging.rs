@@ -7,8 +7,8 @@
 //!   ≥ Σ t = 1 to the crediting period: (44/12 × Σ i: area(t, i) × LTAC(i)).
 //!
 //! In document 02 C is a density and u a discount, the crediting period is T years, LTAC(i) is
-//! "that one average" for every i, and the 44/12 of both sides is left out, which no comparison
-//! shows.
+//! "that one average" for every i, and the 44/12 of both sides is left out, which changes no
+//! comparison.
 
 use super::stops::{stop, value_above_10_000, wrong_tables};
 use super::words::at;

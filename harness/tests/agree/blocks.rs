@@ -9,7 +9,12 @@ pub fn logged_blocks(seed: u64, met: &mut Met) {
         let blocks = generate::logged_blocks(random);
         let [proved, reference] = [&PROVED, &REFERENCE].map(|ledger| answer(ledger, &blocks));
         assert_eq!(proved, reference, "{blocks:?}");
+        let reversed = reversed(&blocks);
+        assert_eq!(answer(&PROVED, &reversed), reference, "{reversed:?}");
         met.answer("logged", reference.number);
+        if reference.number == 0 && reversed.discounts != blocks.discounts {
+            met.count("logged with", "the strata in another order");
+        }
         count(met, &blocks);
     }
 }
@@ -23,6 +28,20 @@ fn answer(ledger: &Ledger, blocks: &LoggedBlocks) -> LoggedAnswer {
         discounts,
     } = blocks;
     (ledger.logged)(*years, *strata, densities, areas, discounts)
+}
+
+/// The same with the last stratum first, in all three lists.
+fn reversed(blocks: &LoggedBlocks) -> LoggedBlocks {
+    let mut reversed = blocks.clone();
+    let strata = blocks.strata.clamp(1, 8) as usize;
+    for list in [
+        &mut reversed.densities,
+        &mut reversed.areas,
+        &mut reversed.discounts,
+    ] {
+        list.chunks_mut(strata).for_each(<[u32]>::reverse);
+    }
+    reversed
 }
 
 fn count(met: &mut Met, blocks: &LoggedBlocks) {
