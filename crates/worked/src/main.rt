@@ -442,6 +442,7 @@ fn block_values(rt: &impl Print) {
         "one density, and 10,001 throughout",
         logging::logged(1, 1, &[10_001], &[10_001], &[10_001]),
     );
+    one_year(rt, "two halves make 1", 1, 1, 5_000);
     one_year(rt, "10,000 throughout", 10_000, 10_000, 10_000);
     one_year(rt, "10,001 throughout", 10_001, 10_001, 10_001);
     one_year(rt, "10,001 from list 1", 10_000, 10_001, 10_001);

@@ -8,7 +8,8 @@ use Rattle.logging.proofs.Tables.figures.Goals as goal
 pub returns : goal.returns
 returns c =
     let a = c.args.self.now.accepted in
-    figures_by _ _ _ _ _ _ _ c.figures_from.result
+    let areas = c.args.self.now.areas.now in
+    figures_by _ _ areas _ _ _ _ c.figures_from.result
     (c.sum-stock.ensures ∙ ap sum c.requires.products_are ∙ stock_is a) c.sum-area.ensures
-    (c.weighted_sum-left.ensures ∙ ap (weighted c.args.self.now.areas.now) (rest_all _ c.args.discounted.now ∙ ap (drop _) c.requires.products_are) ∙ left_is a)
+    (c.weighted_sum-left.ensures ∙ ap (weighted areas) (rest_all _ c.args.discounted.now ∙ ap (drop _) c.requires.products_are) ∙ left_is a)
     c.figures_from.ensures.average c.figures_from.ensures.holds
