@@ -18,8 +18,8 @@
  * Elements beyond those needed are left as they are.
  *
  * Refusals. Number 0 is accepted. Any other number is a refusal: nothing has been written to any slice, every figure of
- * the answer is 0, and a flag false. The tests run in the order of this table, and the first that fails is answered;
- * where one number has several places, the lowest:
+ * the answer is 0, and every flag false. The tests run in the order of this table, and the first that fails is
+ * answered; where one number has several places, the lowest:
  *
  *   no.  met by                condition                                               place
  *    1   every listing         fewer than 2 words                                      0
@@ -137,11 +137,11 @@ peat_answer peat_discount(const uint32_t *first_widths, size_t first_widths_len,
  * Logged blocks: the long-term average carbon stock (EQ34), and the test by which it limits term 4 (EQ48). `years` is
  * T, the years of the average, 1 to 100; strata are 1 to 8. Three lists, each value 0 to 10,000:
  *   0, densities  tenths of t C per ha: (years + 1) * strata values, year 0 first, in each year stratum after stratum
- *   1, areas      ha: years * strata values, year 1 first, in the same way
- *   2, discounts  ten-thousandths, what the discount call answers: one for each stratum
+ *   1, areas      whole ha: years * strata values, year 1 first, in the same way
+ *   2, discounts  ten-thousandths, 10,000 where all of the density counts: one for each stratum
  * average: the sum of density * discount of years 0 to T and all strata, / (10,000 * T). holds: over years 1 to T and
  * all strata, area * discounted density is together at least area * average; the test takes the average unrounded.
- * Where it holds, term 4 is 0.
+ * Where it holds, term 4 is 0. A refused call has holds false too: look at the number first.
  */
 peat_logged_answer peat_logged(uint32_t years, uint32_t strata, const uint32_t *densities, size_t densities_len,
                                const uint32_t *areas, size_t areas_len, const uint32_t *discounts,

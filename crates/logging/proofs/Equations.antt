@@ -80,7 +80,8 @@ module _ (T strata : ℕ) (densities areas discounts : List ℕ) (s : Sizes T st
       let e : length discounts + (t * strata + i) ≡ (t + 1) * strata + i = omega (arith, s.discounts_length) in
       get_or-drop (length discounts) densities (t * strata + i) 0 ∙ ap (λ (k : ℕ). get_or densities k 0) e
 
-  discounted_by_year : (t i : ℕ) → t < T → i < strata → get_or (products (each_year T discounts) (from_year_1 (length discounts) densities)) (t * strata + i) 0 ≡ density strata densities (t + 1) i * discount discounts i
+  discounted_by_year : (t i : ℕ) → t < T → i < strata →
+      get_or (products (each_year T discounts) (from_year_1 (length discounts) densities)) (t * strata + i) 0 ≡ density strata densities (t + 1) i * discount discounts i
   discounted_by_year t i h k =
       let lt = inside T t i h k in
       product_at (each_year T discounts) (from_year_1 (length discounts) densities) (t * strata + i) (omega (arith, lt, each_length T)) (omega (arith, lt, later_length))

@@ -70,47 +70,47 @@ every_table n o rows x sized =
 
 -- ---- the three tables
 
-module _ {T n : ℕ} {o : Order n} {densities areas discounts densities' areas' discounts' : List ℕ} (c : TableMoved o (T + 1) densities densities') (a : TableMoved o T areas areas') (u : TableMoved o 1 discounts discounts')
-  where
-    sized : sizes_valid T n (length densities') (length areas') (length discounts') ≡ sizes_valid T n (length densities) (length areas) (length discounts)
-    sized = rw (c.length_is, a.length_is, u.length_is)
+module _ {T n : ℕ} {o : Order n} {densities areas discounts densities' areas' discounts' : List ℕ}
+    (c : TableMoved o (T + 1) densities densities') (a : TableMoved o T areas areas') (u : TableMoved o 1 discounts discounts') where
+  sized : sizes_valid T n (length densities') (length areas') (length discounts') ≡ sizes_valid T n (length densities) (length areas) (length discounts)
+  sized = rw (c.length_is, a.length_is, u.length_is)
 
-    -- u(i), and C(t, i) × u(i)
-    same_discount : (m : ℕ) → m < n → discount discounts' m ≡ discount discounts (o.from m)
-    same_discount m h =
-        let e : 0 * n + m ≡ m = omega arith in
-        let e' : 0 * n + o.from m ≡ o.from m = omega arith in
-        ap (λ (i : ℕ). get_or discounts' i 0) (sym e) ∙ u.value 0 m (omega arith) h ∙ ap (λ (i : ℕ). get_or discounts i 0) e'
+  -- u(i), and C(t, i) × u(i)
+  same_discount : (m : ℕ) → m < n → discount discounts' m ≡ discount discounts (o.from m)
+  same_discount m h =
+      let e : 0 * n + m ≡ m = omega arith in
+      let e' : 0 * n + o.from m ≡ o.from m = omega arith in
+      ap (λ (i : ℕ). get_or discounts' i 0) (sym e) ∙ u.value 0 m (omega arith) h ∙ ap (λ (i : ℕ). get_or discounts i 0) e'
 
-    same_discounted : (t m : ℕ) → t < T + 1 → m < n → density n densities' t m * discount discounts' m ≡ density n densities t (o.from m) * discount discounts (o.from m)
-    same_discounted t m h k = ap₂ (λ (x y : ℕ). x * y) (c.value t m h k) (same_discount m k)
+  same_discounted : (t m : ℕ) → t < T + 1 → m < n → density n densities' t m * discount discounts' m ≡ density n densities t (o.from m) * discount discounts (o.from m)
+  same_discounted t m h k = ap₂ (λ (x y : ℕ). x * y) (c.value t m h k) (same_discount m k)
 
-    same_area : (t m : ℕ) → t < T → m < n → area n areas' (t + 1) m ≡ area n areas (t + 1) (o.from m)
-    same_area t m h k =
-        let e : t + 1 - 1 ≡ t = omega arith in
-        ap (λ (y : ℕ). get_or areas' (y * n + m) 0) e ∙ a.value t m h k ∙ ap (λ (y : ℕ). get_or areas (y * n + o.from m) 0) (sym e)
+  same_area : (t m : ℕ) → t < T → m < n → area n areas' (t + 1) m ≡ area n areas (t + 1) (o.from m)
+  same_area t m h k =
+      let e : t + 1 - 1 ≡ t = omega arith in
+      ap (λ (y : ℕ). get_or areas' (y * n + m) 0) e ∙ a.value t m h k ∙ ap (λ (y : ℕ). get_or areas (y * n + o.from m) 0) (sym e)
 
-    module _ (s : sizes_valid T n (length densities) (length areas) (length discounts) ≡ true) where
-      was : Equations T n densities areas discounts
-      was = every_equation T n densities areas discounts s
+  module _ (s : sizes_valid T n (length densities) (length areas) (length discounts) ≡ true) where
+    was : Equations T n densities areas discounts
+    was = every_equation T n densities areas discounts s
 
-      now : Equations T n densities' areas' discounts'
-      now = every_equation T n densities' areas' discounts' (sized ∙ s)
+    now : Equations T n densities' areas' discounts'
+    now = every_equation T n densities' areas' discounts' (sized ∙ s)
 
-      same_stock : (average T densities' discounts').numerator ≡ (average T densities discounts).numerator
-      same_stock = now.stock ∙ sum_same _ _ (T + 1) (λ t h. same_sum o _ _ (λ m k. same_discounted t m h k)) ∙ sym was.stock
+    same_stock : (average T densities' discounts').numerator ≡ (average T densities discounts).numerator
+    same_stock = now.stock ∙ sum_same _ _ (T + 1) (λ t h. same_sum o _ _ (λ m k. same_discounted t m h k)) ∙ sym was.stock
 
-      same_left : (left_side T densities' areas' discounts').numerator ≡ (left_side T densities areas discounts).numerator
-      same_left =
-          now.left
-          ∙ sum_same _ _ T (λ t h. same_sum o _ _ (λ m k. ap₂ (λ (x y : ℕ). x * y) (same_area t m h k) (same_discounted (t + 1) m (omega arith) k)))
-          ∙ sym was.left
+    same_left : (left_side T densities' areas' discounts').numerator ≡ (left_side T densities areas discounts).numerator
+    same_left =
+        now.left
+        ∙ sum_same _ _ T (λ t h. same_sum o _ _ (λ m k. ap₂ (λ (x y : ℕ). x * y) (same_area t m h k) (same_discounted (t + 1) m (omega arith) k)))
+        ∙ sym was.left
 
-      same_right : (right_side areas' (average T densities' discounts')).numerator ≡ (right_side areas (average T densities discounts)).numerator
-      same_right = now.right ∙ sum_same _ _ T (λ t h. same_sum o _ _ (λ m k. ap₂ (λ (x y : ℕ). x * y) (same_area t m h k) same_stock)) ∙ sym was.right
+    same_right : (right_side areas' (average T densities' discounts')).numerator ≡ (right_side areas (average T densities discounts)).numerator
+    same_right = now.right ∙ sum_same _ _ T (λ t h. same_sum o _ _ (λ m k. ap₂ (λ (x y : ℕ). x * y) (same_area t m h k) same_stock)) ∙ sym was.right
 
-      same : figures_of T densities' areas' discounts' ≡ figures_of T densities areas discounts
-      same = same_figures T densities areas discounts densities' areas' discounts' same_stock same_left same_right
+    same : figures_of T densities' areas' discounts' ≡ figures_of T densities areas discounts
+    same = same_figures T densities areas discounts densities' areas' discounts' same_stock same_left same_right
 
 -- ---- the call
 
