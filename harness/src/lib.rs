@@ -32,7 +32,7 @@ pub struct Account {
     pub withdrawn: bool,
 }
 
-/// What the test of logged blocks answers; where it is refused, the average is 0 and the test does not hold.
+/// What the test of logged blocks answers; where it is refused, `average` is 0 and `holds` false.
 #[repr(C)]
 #[derive(Clone, Copy, Debug, Default, PartialEq, Eq)]
 pub struct LoggedAnswer {
