@@ -18,7 +18,7 @@ use Rattle.words.proofs.Answers.{need_accepted}
 use Rattle.words.proofs.Blocks.{length_blocks, block_word}
 use Rattle.sums.specs.Sums.{weighted, products, sum, all_at_most}
 use Rattle.sums.proofs.Meaning.{weighted_ones, weighted_le, sum_le, all_at, all_by}
-use Rattle.sums.proofs.Tables.{length_products, product_at, drop_products, products_at_most, take_at_most, drop_at_most, blocks_at_most, sum_products}
+use Rattle.sums.proofs.Tables.{length_products, product_at, drop_products, take_at_most, drop_at_most, sum_products}
 use Rattle.logging.specs.Logging.{each_year, average, from_year_1, left_side, most_years, most_value, values_valid, sizes_valid, tables_checked}
 use Rattle.logging.specs.Bounds.{Sizes, Accepted, Discounted, most_densities, most_areas, most_stock, most_area, most_left}
 
@@ -102,9 +102,6 @@ each_year_later years u = rw (add-one years) (ap (drop (length u)) (first years)
     first zero = sym (append-nil u)
     first (suc n) = ap (λ (x : List ℕ). x ++ u) (first n) ∙ append_assoc u (each_year n u) u
 
-each_year_at_most : (m years : ℕ) (u : List ℕ) → all_at_most m u ≡ true → all_at_most m (each_year years u) ≡ true
-each_year_at_most m years u h = blocks_at_most m (λ t. u) years (λ i. h)
-
 -- ---- the discounted densities of tables that are not refused
 
 module _ {T : ℕ} {densities areas discounts : List ℕ} (a : Accepted T densities areas discounts) where
@@ -124,11 +121,14 @@ module _ {T : ℕ} {densities areas discounts : List ℕ} (a : Accepted T densit
       mul_comm (get_or densities k 0) _ ∙ ap (λ (x : ℕ). x * get_or densities k 0) (sym e) ∙ sym (product_at (each_year (T + 1) discounts) densities k (rw lengths h) h)
 
   -- any density times any discount
+  product_le : (k i : ℕ) → get_or densities k 0 * get_or discounts i 0 ≤ most_value * most_value
+  product_le k i = mul-le-mul (all_at most_value densities k a.densities_valid) (all_at most_value discounts i a.discounts_valid)
+
   pub discounted_fits : (k i : ℕ) → Fits w32 (get_or densities k 0 * get_or discounts i 0)
-  discounted_fits k i = omega (arith, mul-le-mul (all_at most_value densities k a.densities_valid) (all_at most_value discounts i a.discounts_valid))
+  discounted_fits k i = omega (arith, product_le k i)
 
   discounted_valid : all_at_most (most_value * most_value) discounted ≡ true
-  discounted_valid = products_at_most most_value most_value _ densities (each_year_at_most most_value (T + 1) discounts a.discounts_valid) a.densities_valid
+  discounted_valid = all_by (most_value * most_value) discounted (λ k lt. rw (← discounted_at k (rw length_discounted at lt)) (product_le k (k % length discounts)))
 
   pub densities_le : length densities ≤ most_densities
   densities_le =

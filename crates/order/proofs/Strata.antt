@@ -122,10 +122,10 @@ every_strata_order T n o densities areas discounts densities' areas' discounts' 
   where
     checked : tables_checked T n densities' areas' discounts' ≡ tables_checked T n densities areas discounts
     checked =
-        need_both (λ x y. x ≡ y) _ _ 21 0 0 _ _ (sized c a u) refl
+        need_both (λ x y. x ≡ y) _ _ _ _ _ _ _ (sized c a u) refl
         (λ e.
         let s = sizes T n _ _ _ (sym (sized c a u) ∙ e) in
-        need_both (λ x y. x ≡ y) _ _ 22 0 0 _ _ (same_valid c s.strata_from s.densities_length) refl
-        (λ e₁. need_both (λ x y. x ≡ y) _ _ 22 1 1 _ _ (same_valid a s.strata_from s.areas_length) refl
-        (λ e₂. need_both (λ x y. x ≡ y) _ _ 22 2 2 _ _ (same_valid u s.strata_from (omega (arith, s.discounts_length))) refl
+        need_both (λ x y. x ≡ y) _ _ _ _ _ _ _ (same_valid c s.strata_from s.densities_length) refl
+        (λ e₁. need_both (λ x y. x ≡ y) _ _ _ _ _ _ _ (same_valid a s.strata_from s.areas_length) refl
+        (λ e₂. need_both (λ x y. x ≡ y) _ _ _ _ _ _ _ (same_valid u s.strata_from (omega (arith, s.discounts_length))) refl
         (λ e₃. refl))))

@@ -1,18 +1,16 @@
 -- Products of two lists, and weighted sums by index: over tables whose rows stand one after the other. Assumes nothing.
 use mathlib.Core.Path.{◌≡◌, refl, sym, ap, ◌∙◌}
-use mathlib.Core.Bool.{true, and-eq-true_iff}
-use mathlib.Core.List.{List, [], ◌∷◌, ◌++◌, map}
+use mathlib.Core.Bool.{true}
+use mathlib.Core.List.{List, [], ◌∷◌, map}
 use Prim.Native.Nat.{ℕ, zero, suc, ◌+◌, ◌*◌, ◌<◌}
-use native.Mathlib.Nat.{mul-le-mul}
 use native.Mathlib.Omega.{arith}
-use lib.Dec.{leb}
 use lib.ListN.{length, get_or, take, drop}
-use borrow.Author.Tests.{leb-true, le-leb}
-use Rattle.words.specs.Blocks.{blocks}
+use Rattle.std.proofs.lemmas.List.{length-take}
+use lib.Seq.{get_or-take, get_or-drop}
 use Rattle.words.specs.Sums.{sum_below}
 use Rattle.words.proofs.Sums.{sum_rows}
 use Rattle.sums.specs.Sums.{weighted, products, sum, all_at_most, EverySum}
-use Rattle.sums.proofs.Meaning.{weighted_ones}
+use Rattle.sums.proofs.Meaning.{all_at, all_by, weighted_ones}
 
 -- ---- products
 
@@ -48,39 +46,13 @@ drop_products (suc n) [] v = refl
 drop_products (suc n) (x ∷ w) [] = sym (products_nothing (drop n w))
 drop_products (suc n) (x ∷ w) (y ∷ v) = drop_products n w v
 
--- by a bound on each list's values
-pub products_at_most : (m k : ℕ) (w v : List ℕ) → all_at_most m w ≡ true → all_at_most k v ≡ true → all_at_most (m * k) (products w v) ≡ true
-unfolding products all_at_most
-products_at_most m k [] v hw hv = refl
-products_at_most m k (x ∷ w) [] hw hv = refl
-products_at_most m k (x ∷ w) (y ∷ v) hw hv =
-    let ws : (leb x m ≡ true) × (all_at_most m w ≡ true) = (and-eq-true_iff _ _).0 hw in
-    let vs : (leb y k ≡ true) × (all_at_most k v ≡ true) = (and-eq-true_iff _ _).0 hv in
-    rw (le-leb (x * y) (m * k) (mul-le-mul (leb-true x m ws.0) (leb-true y k vs.0))) (products_at_most m k w v ws.1 vs.1)
-
--- ---- bounds of parts of a list
+-- ---- bounds of parts of a list, by index
 
 pub drop_at_most : (m : ℕ) (v : List ℕ) (i : ℕ) → all_at_most m v ≡ true → all_at_most m (drop i v) ≡ true
-unfolding all_at_most
-drop_at_most m v zero h = h
-drop_at_most m [] (suc i) h = refl
-drop_at_most m (x ∷ v) (suc i) h = let s : (leb x m ≡ true) × (all_at_most m v ≡ true) = (and-eq-true_iff _ _).0 h in drop_at_most m v i s.1
+drop_at_most m v i h = all_by m (drop i v) (λ k lt. rw (get_or-drop i v k 0) (all_at m v (i + k) h))
 
 pub take_at_most : (m : ℕ) (v : List ℕ) (i : ℕ) → all_at_most m v ≡ true → all_at_most m (take i v) ≡ true
-unfolding all_at_most
-take_at_most m v zero h = refl
-take_at_most m [] (suc i) h = refl
-take_at_most m (x ∷ v) (suc i) h = let s : (leb x m ≡ true) × (all_at_most m v ≡ true) = (and-eq-true_iff _ _).0 h in rw s.0 (take_at_most m v i s.1)
-
-append_at_most : (m : ℕ) (v w : List ℕ) → all_at_most m v ≡ true → all_at_most m w ≡ true → all_at_most m (v ++ w) ≡ true
-unfolding all_at_most
-append_at_most m [] w hv hw = hw
-append_at_most m (x ∷ v) w hv hw = let s : (leb x m ≡ true) × (all_at_most m v ≡ true) = (and-eq-true_iff _ _).0 hv in rw s.0 (append_at_most m v w s.1 hw)
-
-pub blocks_at_most : (m : ℕ) (f : ℕ → List ℕ) (n : ℕ) → ((i : ℕ) → all_at_most m (f i) ≡ true) → all_at_most m (blocks f n) ≡ true
-unfolding all_at_most
-blocks_at_most m f zero h = refl
-blocks_at_most m f (suc n) h = append_at_most m (blocks f n) (f n) (blocks_at_most m f n h) (h n)
+take_at_most m v i h = all_by m (take i v) (λ k lt. rw (get_or-take i v k 0 (omega (arith, lt, length-take i v))) (all_at m v k h))
 
 -- ---- one value throughout
 
