@@ -101,6 +101,7 @@ fn richest(random: &mut Random) -> Site {
     Site {
         horizon: size.horizon,
         tables: vec![vec![row; size.horizon as usize]; size.strata as usize],
+        char: figure(random, 0, 31),
         buffer: figure(random, 0, 100),
         warming: 100,
         methane: 100,
@@ -114,6 +115,7 @@ fn richest(random: &mut Random) -> Site {
 fn site(random: &mut Random, size: Size) -> Site {
     let mut site = Site {
         horizon: size.horizon,
+        char: figure(random, 0, 31),
         buffer: figure(random, 0, 100),
         warming: figure(random, 1, 100),
         methane: figure(random, 0, 100),
@@ -228,6 +230,7 @@ pub fn largest() -> Site {
     });
     Site {
         horizon: 100,
+        char: 0,
         buffer: 20,
         warming: 25,
         methane: 12,

@@ -72,6 +72,15 @@ const GROUPS: &[(&str, &[&str])] = &[
             "issues with tonnes paid",
         ],
     ),
+    (
+        "kg to date of a cell",
+        &[
+            "that burned, with char",
+            "that burned, with char and no methane",
+            "that burned, without char",
+            "that oxidised alone, with char",
+        ],
+    ),
     ("refused in a list", &["7", "9", "10", "11", "12", "13"]),
     (
         "two at once",
@@ -153,6 +162,9 @@ const GROUPS: &[(&str, &[&str])] = &[
             "100 years",
             "no term",
             "700 terms",
+            "char 0",
+            "char 1",
+            "char 31",
             "no site word",
             "a site word",
             "guard 0",

@@ -36,6 +36,16 @@ pub fn with_site_word(word: u32) -> Vec<u32> {
     [&WORKED[..2], &[word], &WORKED[2..]].concat()
 }
 
+/// Word 1 of the worked listing with a char percentage of 20.
+pub const CHAR_WORD: u32 = 0x2A14190C;
+
+pub const CHAR_TEXT: &str = "\
+year ox burn kg issued
+1 45 300 582500 465
+2 45 0 82500 67
+left 1610
+";
+
 /// The worked listing with another word in place of one of its own.
 pub fn worked_with(place: usize, word: u32) -> Vec<u32> {
     let mut words = WORKED.to_vec();

@@ -38,10 +38,11 @@ const NO_SITE_WORD: SiteWord = SiteWord {
     thickness: 300,
 };
 
-/// Buffer in percent, warming potential of methane, methane emission ratio in thousandths.
+/// Char and buffer in percent, warming potential of methane, methane emission ratio in thousandths.
 #[derive(Clone, Debug)]
 pub struct Site {
     pub horizon: u32,
+    pub char: u32,
     pub buffer: u32,
     pub warming: u32,
     pub methane: u32,
@@ -139,7 +140,8 @@ impl Content<'_> {
                 1 << 28 | cells << 16 | strata << 8 | site.horizon
             }
             Content::Figures(site) => {
-                2 << 28 | site.buffer << 16 | site.warming << 8 | site.methane
+                let methane = site.warming << 8 | site.methane;
+                2 << 28 | site.char << 23 | site.buffer << 16 | methane
             }
             Content::SiteWord(word) => 7 << 28 | word.guard << 14 | word.thickness,
             Content::Row(_, _, row) => {
@@ -165,8 +167,8 @@ impl Content<'_> {
                 site.horizon
             ),
             Content::Figures(site) => format!(
-                "buffer {} percent, warming potential of methane {}, methane emission ratio {} thousandths",
-                site.buffer, site.warming, site.methane
+                "char {} percent, buffer {} percent, warming potential of methane {}, methane emission ratio {} thousandths",
+                site.char, site.buffer, site.warming, site.methane
             ),
             Content::SiteWord(word) => format!(
                 "guard {} mm, least thickness of peat {} mm",

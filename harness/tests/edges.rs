@@ -1,8 +1,8 @@
 //! The worked figures of document 01 and of the requests, the ends of lengths and readings, and the claims on lists where they fail.
 use harness::generate::{self, Random};
 use harness::reference::{self, History};
-use harness::sample::{with_site_word, worked_with, NEGATIVE_TERM, SITE_WORD, WORKED};
-use harness::site::{Cell, Row, Site, SiteWord};
+use harness::sample::{with_site_word, worked_with, CHAR_WORD, NEGATIVE_TERM, SITE_WORD, WORKED};
+use harness::site::{Cell, Row, Site, SiteWord, LINE_WORDS};
 use harness::{Account, Answer, Ledger, LoggedAnswer, Reading, PROVED, REFERENCE};
 
 fn both(check: impl Fn(&Ledger)) {
@@ -58,6 +58,7 @@ fn one_cell_of(site_word: Option<SiteWord>, row: Row, entered: u32) -> Vec<u32> 
     };
     let site = Site {
         horizon: 1,
+        char: 0,
         buffer: 20,
         warming: 25,
         methane: 12,
@@ -137,20 +138,131 @@ fn site_figures() {
     }
 }
 
+/// The worked listing with a site word, and with a char percentage of 20, 1 and 31: burned mm, kg and tonnes of year 1,
+/// tonnes of year 2, and the mm left.
 #[test]
-fn worked_site_word() {
+fn worked_requests() {
+    let rows = [
+        (with_site_word(SITE_WORD), 200, 489_166, 391, 65, 1_710),
+        (worked_with(1, CHAR_WORD), 300, 582_500, 465, 67, 1_610),
+        (worked_with(1, 0x2094_190C), 300, 687_000, 549, 66, 1_610),
+        (worked_with(1, 0x2F94_190C), 300, 522_000, 417, 66, 1_610),
+    ];
+    for (listing, burned, kg, first, second, left) in rows {
+        both(|ledger| {
+            let (mut book, mut lines) = ([0; 5], [0; 3]);
+            assert_eq!((ledger.open)(&listing, &mut book), accepted(0));
+            assert_eq!((ledger.close)(&listing, &mut book, &mut lines), accepted(0));
+            assert_eq!(lines, [13 << 28 | 45, 14 << 28 | burned, 15 << 28 | kg]);
+            assert_eq!((ledger.issue)(&listing, &mut book), accepted(first));
+            assert_eq!((ledger.close)(&listing, &mut book, &mut lines), accepted(0));
+            assert_eq!(lines, [13 << 28 | 45, 14 << 28, 15 << 28 | 82_500]);
+            assert_eq!((ledger.issue)(&listing, &mut book), accepted(second));
+            assert_eq!((ledger.statement)(&listing, &book, 0).remaining, left);
+            let mut output = [0; 2];
+            let answer = (ledger.forecast)(&listing, &mut book, &mut output);
+            assert_eq!(answer, accepted(0));
+            assert_eq!(output, [u64::from(kg), 82_500]);
+        });
+    }
+}
+
+/// h, G, e, area, density, O and B, to the kg to date.
+#[test]
+fn emissions_with_char() {
+    let rows = [
+        // 24,000,000 × 4,759,000 × 20,000 / 3,000,000,000, and without char.
+        (31, 100, 100, 10_000, 2_400, 0, 20_000, 761_440_000),
+        (0, 100, 100, 10_000, 2_400, 0, 20_000, 816_000_000),
+        // 759,000 is the least weight of a burned mm; what oxidised has 1,100,000 whatever h is.
+        (31, 1, 0, 10_000, 2_400, 0, 1, 6_072),
+        (31, 100, 0, 10_000, 2_400, 0, 1, 6_072),
+        (31, 1, 0, 10_000, 2_400, 1, 0, 8_800),
+        (31, 1, 0, 10_000, 2_400, 1, 1, 14_872),
+        // A hundredth less: 1,089,000 × 2,754 is below 3,000,000,000, and × 2,755 is not.
+        (1, 1, 0, 1, 1, 0, 2_754, 0),
+        (0, 1, 0, 1, 1, 0, 2_754, 1),
+        (1, 1, 0, 1, 1, 0, 2_755, 1),
+        // 16,793 × 5,089,000 / 3,000,000,000 is 28.4 and more.
+        (1, 100, 100, 7, 2_399, 0, 1, 28),
+    ];
+    for (char, warming, methane, area, density, oxidised, burned, kg) in rows {
+        let row = Row {
+            drainage: 0,
+            oxidation: 0,
+            burning: 0,
+        };
+        let mut listing = one_cell(row, 20_000);
+        listing[1] = 2 << 28 | char << 23 | warming << 8 | methane;
+        listing[4] = 5 << 28 | area << 12 | density;
+        both(|ledger| {
+            let (o, b) = (11 << 28 | oxidised, 12 << 28 | burned);
+            let book = [8 << 28, 9 << 28, 10 << 28 | 1, o, b];
+            let answer = (ledger.statement)(&listing, &book, 0);
+            assert_eq!((answer.number, answer.kg), (0, kg));
+        });
+    }
+}
+
+/// Every h is allowed, and the other figures of word 1 are tested with each.
+#[test]
+fn char_percentages() {
     both(|ledger| {
-        let listing = with_site_word(SITE_WORD);
-        let (mut book, mut lines) = ([0; 5], [0; 3]);
-        assert_eq!((ledger.open)(&listing, &mut book), accepted(0));
-        assert_eq!((ledger.close)(&listing, &mut book, &mut lines), accepted(0));
-        assert_eq!(lines, [13 << 28 | 45, 14 << 28 | 200, 15 << 28 | 489_166]);
-        assert_eq!((ledger.issue)(&listing, &mut book), accepted(391));
-        assert_eq!((ledger.close)(&listing, &mut book, &mut lines), accepted(0));
-        assert_eq!(lines, [13 << 28 | 45, 14 << 28, 15 << 28 | 82_500]);
-        assert_eq!((ledger.issue)(&listing, &mut book), accepted(65));
-        assert_eq!((ledger.statement)(&listing, &book, 0).remaining, 1_710);
+        for char in 0..32 {
+            for (figures, answer) in [
+                (0x2064_6464, accepted(0)),
+                (0x2000_0100, accepted(0)),
+                (0x2065_6464, refused(2, 1)),
+                (0x2064_6564, refused(2, 1)),
+                (0x2064_0064, refused(2, 1)),
+                (0x2064_6465, refused(2, 1)),
+                (0x0064_6464, refused(2, 1)),
+            ] {
+                let listing = worked_with(1, figures | char << 23);
+                assert_eq!((ledger.open)(&listing, &mut [0; 5]), answer);
+            }
+        }
     });
+}
+
+/// With h = 0 a cell's kg lines add up to document 01's emission, and its mm are the same with any h.
+#[test]
+fn without_char() {
+    let random = &mut Random(32);
+    let (mut emitted, mut less) = (0, 0);
+    for _ in 0..200 {
+        let site = generate::any_site(random);
+        let [without, with] = [0, random.between(1, 31)].map(|char| Site {
+            char,
+            ..site.clone()
+        });
+        both(|ledger| {
+            let [without, with] = [&without, &with].map(|site| sums_of_lines(ledger, site));
+            for (i, cell) in site.cells.iter().enumerate() {
+                let [(o, b, kg), (with_o, with_b, with_kg)] = [without[i], with[i]];
+                let k = u64::from(cell.area * cell.density);
+                let methane = u64::from(4 * site.warming * site.methane) * b;
+                assert_eq!(kg, k * (11_000 * (o + b) + methane) / 30_000_000);
+                assert_eq!((with_o, with_b), (o, b));
+                assert!(with_kg <= kg);
+                emitted += u32::from(b > 0 && kg > 0);
+                less += u32::from(with_kg < kg);
+            }
+        });
+    }
+    assert!(emitted > 0 && less > 0);
+}
+
+/// Of each cell, its lines of all years added up: oxidised and burned mm, and kg.
+fn sums_of_lines(ledger: &Ledger, site: &Site) -> Vec<(u64, u64, u64)> {
+    let mut sums = vec![(0, 0, 0); site.cells.len()];
+    for (lines, _) in all_years(ledger, site).0 {
+        for (sum, line) in sums.iter_mut().zip(lines.chunks_exact(LINE_WORDS)) {
+            let line = [line[0], line[1], line[2]].map(|word| u64::from(word & 0x0FFF_FFFF));
+            *sum = (sum.0 + line[0], sum.1 + line[1], sum.2 + line[2]);
+        }
+    }
+    sums
 }
 
 /// Which word a kind 7 is refused at, and which a site word.
@@ -667,6 +779,7 @@ fn small_cells_emit() {
     };
     let site = Site {
         horizon: 100,
+        char: 0,
         buffer: 0,
         warming: 1,
         methane: 0,

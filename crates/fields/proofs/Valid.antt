@@ -39,6 +39,7 @@ head_valid w v x p q r =
       cells = (within_least _ _ _ cells, within_most _ _ _ cells);
       strata = (within_least _ _ _ strata, within_most _ _ _ strata);
       horizon = (within_least _ _ _ horizon, within_most _ _ _ horizon);
+      char = field_most v 23 5;
       buffer = within_most _ _ _ buffer;
       warming = (within_least _ _ _ warming, within_most _ _ _ warming);
       methane = within_most _ _ _ methane;

@@ -1,5 +1,5 @@
--- Document 01, "Project listing", with the site word of document 02: the fields of each kind of word, w. The bits that must be zero are named
--- in Words.antt.
+-- Document 01, "Project listing", with the site word and the char percentage of document 02: the fields of each kind of word, w. The bits that
+-- must be zero are named in Words.antt.
 use Rattle.std.specs.Prelude.{ℕ, ℤ, Bool, cond}
 use Rattle.words.specs.Bits.{bits, signed_bits, is_kind}
 use Rattle.fields.specs.declared.Head.{Head}
@@ -17,7 +17,10 @@ strata_of w = bits w 15 8
 abbrev pub horizon_of : ℕ → ℕ
 horizon_of w = bits w 7 0
 
--- kind 2, word 1: buffer percentage p, warming potential of methane G, methane emission ratio e in thousandths
+-- kind 2, word 1: char percentage h, buffer percentage p, warming potential of methane G, methane emission ratio e in thousandths
+abbrev pub char_of : ℕ → ℕ
+char_of w = bits w 27 23
+
 abbrev pub buffer_of : ℕ → ℕ
 buffer_of w = bits w 22 16
 
@@ -91,6 +94,7 @@ head_of w v x =
       cells = cells_of w;
       strata = strata_of w;
       horizon = horizon_of w;
+      char = char_of v;
       buffer = buffer_of v;
       warming = warming_of v;
       methane = methane_of v;

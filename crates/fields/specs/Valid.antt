@@ -17,6 +17,7 @@ pub record HeadValid (h : Head) : Type 0 where
   pub cells : (1 ≤ h.cells) × (h.cells ≤ most_cells)
   pub strata : (1 ≤ h.strata) × (h.strata ≤ most_strata)
   pub horizon : (1 ≤ h.horizon) × (h.horizon ≤ most_horizon)
+  pub char : h.char ≤ 31
   pub buffer : h.buffer ≤ most_buffer
   pub warming : (1 ≤ h.warming) × (h.warming ≤ most_warming)
   pub methane : h.methane ≤ most_methane

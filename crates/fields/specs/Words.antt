@@ -1,5 +1,5 @@
--- Document 01, "Project listing", with the site word of document 02: which words are valid, each by itself, and the order
--- of terms.
+-- Document 01, "Project listing", with the site word and the char percentage of document 02: which words are valid, each by
+-- itself, and the order of terms.
 use Rattle.std.specs.Prelude.{ℕ, Bool, ◌&&◌, ◌||◌, leb, ltb, eqb}
 use Rattle.words.specs.Bits.{bits, within, is_kind}
 use Rattle.fields.specs.Fields.{cells_of, strata_of, horizon_of, buffer_of, warming_of, methane_of, stratum_of, conversion_of, entered_of, area_of, density_of, term_of, year_of}
@@ -60,9 +60,9 @@ year_terms = 7
 unfoldable pub is_size_word : ℕ → Bool
 is_size_word w = is_kind 1 w && within 1 most_cells (cells_of w) && within 1 most_strata (strata_of w) && within 1 most_horizon (horizon_of w)
 
--- word 1: p 0–100, G 1–100, e 0–100; bits 27–23 are zero
+-- word 1: p 0–100, G 1–100, e 0–100; every h is allowed
 unfoldable pub is_figure_word : ℕ → Bool
-is_figure_word w = is_kind 2 w && eqb (bits w 27 23) 0 && within 0 most_buffer (buffer_of w) && within 1 most_warming (warming_of w) && within 0 most_methane (methane_of w)
+is_figure_word w = is_kind 2 w && within 0 most_buffer (buffer_of w) && within 1 most_warming (warming_of w) && within 0 most_methane (methane_of w)
 
 -- the site's figures: a guard and a least thickness of 0–2,000. All bits of the site word are named, and what holds without one is in range
 unfoldable pub is_site_valid : Head → Bool

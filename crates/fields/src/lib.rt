@@ -45,8 +45,8 @@ const STRATA: Field = Field { high: 15, low: 8 };
 
 const HORIZON: Field = Field { high: 7, low: 0 };
 
-// Of word 1; the first is of bits that must be 0, as others below.
-const FIGURE_ZEROS: Field = Field { high: 27, low: 23 };
+// Of word 1.
+const CHAR: Field = Field { high: 27, low: 23 };
 
 const BUFFER: Field = Field { high: 22, low: 16 };
 
@@ -70,7 +70,7 @@ const OXIDATION: Field = Field { high: 19, low: 10 };
 
 const BURNING: Field = Field { high: 9, low: 0 };
 
-// Of a cell's two words.
+// Of a cell's two words; AREA_ZEROS are bits that must be 0.
 const STRATUM: Field = Field { high: 27, low: 24 };
 
 const CONVERSION: Field = Field { high: 23, low: 16 };
@@ -97,6 +97,7 @@ pub struct Head {
     pub cells: u32,
     pub strata: u32,
     pub horizon: u32,
+    pub char: u32,
     pub buffer: u32,
     pub warming: u32,
     pub methane: u32,
@@ -146,7 +147,6 @@ pub fn is_figure_word(w: u32) -> bool
     ensures { result ≡ is_figure_word w }
 {
     Kind::Figure.is_of(w)
-        & (FIGURE_ZEROS.of(w) == 0)
         & BUFFER.is_within(w, 0, MOST_BUFFER)
         & WARMING.is_within(w, 1, MOST_WARMING)
         & METHANE.is_within(w, 0, MOST_METHANE)
@@ -244,6 +244,7 @@ pub fn head_of(w: u32, v: u32, x: u32) -> Head
         cells: CELLS.of(w),
         strata: STRATA.of(w),
         horizon: HORIZON.of(w),
+        char: CHAR.of(v),
         buffer: BUFFER.of(v),
         warming: WARMING.of(v),
         methane: METHANE.of(v),

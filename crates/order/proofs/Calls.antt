@@ -16,8 +16,7 @@ use Rattle.fields.specs.declared.Head.{Head}
 use Rattle.fields.specs.declared.Cell.{Cell}
 use Rattle.listing.specs.Layout.{head, strata, cell}
 use Rattle.year.specs.Year.{kg_of, planned, marked}
-use Rattle.year.specs.Limits.{SameFigures}
-use Rattle.year.proofs.Laws.{converted}
+use Rattle.year.proofs.Laws.{converted, same_figures}
 use Rattle.book.specs.Current.{current, entry, kg_to_date, fitted, book_checked, admitted, AcceptedBook}
 use Rattle.book.specs.Layout.{year}
 use Rattle.book.specs.Check as check
@@ -127,9 +126,6 @@ module _ {n : ℕ} {o : Order n} {l l' b b' : List ℕ} (v : Pair o l l' b b') w
 
   -- ---- a year
 
-  figures : SameFigures (head l') (head l)
-  figures = rw e.head_is (record { guard = refl; thickness = refl; warming = refl; methane = refl })
-
   -- of a closing that is accepted: cell m now is the cell from where it came
   own : (size : ℕ) → (close_answer l b size).done ≡ true → (m : ℕ) → m < n → SameYear l' b' m l b (o.from m)
   own size done m lt =
@@ -140,7 +136,7 @@ module _ {n : ℕ} {o : Order n} {l l' b b' : List ℕ} (v : Pair o l l' b b') w
       let stratum : (cell l' m).stratum < strata l = omega (arith, ap (λ (c : Cell). c.stratum) (cell_is e m lt), (valid.cell_valid (o.from m) (there e m lt)).stratum) in
       own_words l' b' m l b (o.from m)
       (record {
-        figures = figures;
+        figures = same_figures e.head_is;
         listing_words = rw e.head_is (e.cells_moved.block m lt);
         book_words = eb.block m lt;
         year_is = years;

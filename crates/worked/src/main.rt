@@ -92,8 +92,8 @@ fn listings(rt: &impl Print) {
     print_check(rt, "area 10,001", &l);
     l[3] = 0x4460_b400;
     print_check(rt, "table word of kind 4", &l);
-    l[1] = 0x2094_190c;
-    print_check(rt, "bit 23 of word 1", &l);
+    l[1] = 0x2065_190c;
+    print_check(rt, "buffer 101 percent", &l);
     l[0] = 0x1101_0102;
     print_check(rt, "257 cells", &l);
 }
@@ -211,16 +211,21 @@ fn year(rt: &impl Print, l: &[u32], b: &mut [u32], x: &mut [u32], i: usize) {
     print_amount(rt, "issue", ledger::issue(l, b));
 }
 
+// The mm left of the first cell.
+fn print_left(rt: &impl Print, l: &[u32], b: &[u32]) {
+    print_answer(
+        rt,
+        "left",
+        ledger::statement(l, b, 0),
+        |figures| u64::from(figures.remaining),
+    );
+}
+
 // What is refused once the horizon is reached and the cell is converted.
 fn converted(rt: &impl Print, l: &[u32], b: &mut [u32], x: &mut [u32]) {
     print_outcome(rt, "close at the horizon", ledger::close(l, b, x));
     print_outcome(rt, "replan of a converted cell", ledger::replan(l, b, 0, 0));
-    print_answer(
-        rt,
-        "left",
-        ledger::statement(l, &b[..], 0),
-        |figures| u64::from(figures.remaining),
-    );
+    print_left(rt, l, &b[..]);
     print_answer(
         rt,
         "no such cell",
@@ -293,6 +298,16 @@ fn neighbours(rt: &impl Print) {
     second_cell_year(rt, &l, &mut b, &mut x);
 }
 
+// A listing of one cell: open, two years with their issues, and the mm left.
+fn two_years(rt: &impl Print, name: &str, l: &[u32]) {
+    let mut b = [0u32; 5];
+    let mut x = [0u32; 3];
+    print_outcome(rt, name, ledger::open(l, &mut b));
+    year(rt, l, &mut b, &mut x, 0);
+    year(rt, l, &mut b, &mut x, 0);
+    print_left(rt, l, &b[..]);
+}
+
 // The worked listing with a site word as word 2, guard 500 and least thickness 300: two years.
 fn site(rt: &impl Print) {
     let mut l = [
@@ -304,17 +319,7 @@ fn site(rt: &impl Print) {
         0x4001_07d0,
         0x5271_01f4,
     ];
-    let mut b = [0u32; 5];
-    let mut x = [0u32; 3];
-    print_outcome(rt, "open with a site word", ledger::open(&l, &mut b));
-    year(rt, &l, &mut b, &mut x, 0);
-    year(rt, &l, &mut b, &mut x, 0);
-    print_answer(
-        rt,
-        "left",
-        ledger::statement(&l, &b[..], 0),
-        |figures| u64::from(figures.remaining),
-    );
+    two_years(rt, "open with a site word", &l);
     l[2] = 0x707d_07d1;
     print_check(rt, "least thickness 2,001", &l);
     l[2] = 0x71f4_412c;
@@ -336,6 +341,26 @@ fn misplaced_site(rt: &impl Print) {
     l[1] = 0x7014_190c;
     l[2] = 0x3460_b554;
     print_check(rt, "word 1 of kind 7", &l);
+}
+
+// The worked listing with char percentage 20, 1 and 31 in word 1: two years of each. Then 31 with a buffer
+// of 101 percent.
+fn char_left(rt: &impl Print) {
+    let mut l = [
+        0x1001_0102u32,
+        0x2a14_190c,
+        0x3460_b554,
+        0x3460_b400,
+        0x4001_07d0,
+        0x5271_01f4,
+    ];
+    two_years(rt, "open with char percentage 20", &l);
+    l[1] = 0x2094_190c;
+    two_years(rt, "open with char percentage 1", &l);
+    l[1] = 0x2f94_190c;
+    two_years(rt, "open with char percentage 31", &l);
+    l[1] = 0x2fe5_190c;
+    print_check(rt, "char percentage 31, buffer 101 percent", &l);
 }
 
 // Two years of one stratum, with none taken off.
@@ -458,6 +483,7 @@ fn main(rt: HostRuntime) {
     discounts(&rt);
     site(&rt);
     misplaced_site(&rt);
+    char_left(&rt);
     blocks(&rt);
     block_sizes(&rt);
     block_lengths(&rt);

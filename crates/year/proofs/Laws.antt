@@ -1,6 +1,6 @@
 -- A cell's year: its products fit, an emission grows with what is lost, no more is lost than there is, and which figures it depends on.
 -- Assumes nothing.
-use mathlib.Core.Path.{◌≡◌, sym, ap, ◌∙◌}
+use mathlib.Core.Path.{◌≡◌, refl, sym, ap, ◌∙◌}
 use mathlib.Core.Bool.{true, false, or-true}
 use Prim.Native.Nat.{ℕ, ◌+◌, ◌-◌, ◌*◌, ◌≤◌, ◌<◌}
 use native.Mathlib.Nat.{add-zero, mul-le-mul, sub_self}
@@ -13,8 +13,8 @@ use Rattle.fields.specs.Valid.{HeadValid, RowValid, CellValid}
 use Rattle.fields.specs.declared.Head.{Head}
 use Rattle.fields.specs.declared.Row.{Row}
 use Rattle.fields.specs.declared.Cell.{Cell}
-use Rattle.year.specs.Year.{unconverted, inactive, age, drained, remaining, burned_by, oxidised_by, burned_mm, mm_of, no_mm, year_mm, emission, kg_of, loss_of, year_loss}
-use Rattle.year.specs.Year.{no_loss, most_line, most_emission, most_loss, after_loss}
+use Rattle.year.specs.Year.{unconverted, inactive, age, drained, remaining, burned_by, oxidised_by, burned_mm, mm_of, no_mm, year_mm, burned_weight, emission_divisor, emission, kg_of, loss_of, year_loss}
+use Rattle.year.specs.Year.{EveryEmission, no_loss, most_line, most_emission, most_loss, after_loss}
 use Rattle.year.specs.Limits.{WithinLimits, SameFigures}
 use Rattle.year.specs.declared.Entry.{Entry}
 use Rattle.year.specs.declared.LostMm.{LostMm}
@@ -22,23 +22,32 @@ use Rattle.year.specs.declared.Loss.{Loss}
 
 -- ---- the products of an emission
 
--- what is divided by 30,000,000
-abbrev pub weight : Head → Cell → ℕ → ℕ → ℕ
-weight h c o b = c.area * c.density * (11000 * (o + b) + 4 * h.warming * h.methane * b)
+-- what is divided by 3,000,000,000
+abbrev pub dividend : Head → Cell → ℕ → ℕ → ℕ
+dividend h c o b = c.area * c.density * (1100000 * o + burned_weight h * b)
+
+module _ {h : Head} (head : HeadValid h) where
+  ratio_most : 400 * h.warming * h.methane ≤ 4000000
+  ratio_most = mul-le-mul {n₂ = 40000} {m₂ = 100} (let most = head.warming in omega arith) head.methane
+
+  burned_weight_least : 759000 ≤ burned_weight h
+  unfolding burned_weight
+  burned_weight_least = let most = head.char in omega arith
+
+  pub burned_weight_most : burned_weight h ≤ 5100000
+  unfolding burned_weight
+  burned_weight_most = omega (arith, ratio_most)
 
 -- by the limits of a valid listing, with at most m mm lost and at most n mm of it burned
 module _ {h : Head} {c : Cell} (head : HeadValid h) (cell : CellValid h.strata h.horizon c) where
   area_most : c.area * c.density ≤ 24000000
   area_most = mul-le-mul {n₂ = 10000} {m₂ = 2400} cell.area.1 cell.density.1
 
-  ratio_most : 4 * h.warming * h.methane ≤ 40000
-  ratio_most = mul-le-mul {n₂ = 400} {m₂ = 100} (omega arith) head.methane
+  burning_most : (b : ℕ) → burned_weight h * b ≤ 5100000 * b
+  burning_most b = mul-le-mul {n₂ = 5100000} (burned_weight_most head) (omega arith)
 
-  methane_most : {b n : ℕ} → b ≤ n → 4 * h.warming * h.methane * b ≤ 40000 * n
-  methane_most p = mul-le-mul {n₂ = 40000} ratio_most p
-
-  weight_most : (o b : ℕ) {m n : ℕ} → o + b ≤ m → b ≤ n → weight h c o b ≤ 24000000 * (11000 * m + 40000 * n)
-  weight_most o b {m} {n} p q = mul-le-mul {n₂ = 24000000} {m₂ = 11000 * m + 40000 * n} area_most (omega (arith, methane_most q))
+  dividend_most : (o b : ℕ) {m n : ℕ} → o + b ≤ m → b ≤ n → dividend h c o b ≤ 24000000 * (1100000 * m + 4000000 * n)
+  dividend_most o b {m} {n} p q = mul-le-mul {n₂ = 24000000} {m₂ = 1100000 * m + 4000000 * n} area_most (omega (arith, burning_most b))
 
 -- 20,000 mm
 module _ {h : Head} {c : Cell} {o b : ℕ} (fit : WithinLimits h c o b) where
@@ -48,12 +57,12 @@ module _ {h : Head} {c : Cell} {o b : ℕ} (fit : WithinLimits h c o b) where
   burned_most : b ≤ 20000
   burned_most = omega (arith, lost_most)
 
-  pub fit_weight : weight h c o b ≤ 24480000000000000
-  fit_weight = weight_most fit.head_valid fit.cell_valid o b lost_most burned_most
+  pub fit_dividend : dividend h c o b ≤ 2448000000000000000
+  fit_dividend = dividend_most fit.head_valid fit.cell_valid o b lost_most burned_most
 
   pub emission_most : emission h c o b ≤ most_emission
   unfolding emission
-  emission_most = omega (arith, fit_weight)
+  emission_most = omega (arith, fit_dividend)
 
 -- nothing lost leaves an entry as it was
 pub after_loss_none : (e : Entry) → after_loss e no_loss ≡ e
@@ -65,20 +74,42 @@ unfolding emission
 emission_none h c = omega arith
 
 -- ---- more lost: no less emitted, and at most as much more as the difference alone emits
-sums : (k w o b o' b' : ℕ) → k * (11000 * ((o + o') + (b + b')) + w * (b + b')) ≡ k * (11000 * (o + b) + w * b) + k * (11000 * (o' + b') + w * b')
+sums : (k w o b o' b' : ℕ) → k * (1100000 * (o + o') + w * (b + b')) ≡ k * (1100000 * o + w * b) + k * (1100000 * o' + w * b')
 sums k w o b o' b' = omega arith
 
 module _ (h : Head) (c : Cell) (o b o' b' : ℕ) where
-  more : weight h c (o + o') (b + b') ≡ weight h c o b + weight h c o' b'
-  more = sums (c.area * c.density) (4 * h.warming * h.methane) o b o' b'
+  more : dividend h c (o + o') (b + b') ≡ dividend h c o b + dividend h c o' b'
+  more = sums (c.area * c.density) (burned_weight h) o b o' b'
 
-  emission_more : (m : ℕ) → weight h c o' b' ≤ 30000000 * m → emission h c (o + o') (b + b') ≤ emission h c o b + m
+  emission_more : (m : ℕ) → dividend h c o' b' ≤ emission_divisor * m → emission h c (o + o') (b + b') ≤ emission h c o b + m
   unfolding emission
   emission_more m p = omega (arith, more)
 
   pub emission_grows : emission h c o b ≤ emission h c (o + o') (b + b')
   unfolding emission
   emission_grows = omega (arith, more)
+
+-- ---- every emission
+grows : (h : Head) (c : Cell) (o b o' b' : ℕ) → o ≤ o' → b ≤ b' → emission h c o b ≤ emission h c o' b'
+grows h c o b o' b' p q =
+    let oxidised : o + (o' - o) ≡ o' = omega arith in
+    let burned : b + (b' - b) ≡ b' = omega arith in
+    rw (← oxidised, ← burned) (emission_grows h c o b (o' - o) (b' - b))
+
+-- without char, a hundred times what document 01 divides by a hundredth of this divisor
+hundredfold : (h : Head) (c : Cell) (o b : ℕ) → h.char ≡ 0 → dividend h c o b ≡ 100 * (c.area * c.density * (11000 * (o + b) + 4 * h.warming * h.methane * b))
+unfolding burned_weight
+hundredfold h c o b p = rw p (omega arith)
+
+pub every_emission : EveryEmission
+unfolding emission burned_weight
+every_emission =
+    record {
+      hundredths = λ h. omega arith;
+      weight = λ h head. (burned_weight_least head, burned_weight_most head);
+      grows = grows;
+      without_char = λ h c o b p. omega (arith, hundredfold h c o b p);
+    }
 
 -- ---- a year's two losses, by the figures of a row
 module _ (guard d b R : ℕ) where
@@ -210,9 +241,12 @@ module _ (h : Head) (rows : ℕ → ℕ → Row) (c : Cell) (e : Entry) (t : ℕ
     unfolding year_loss
     year_kg_most =
         let m = year_mm h rows c e t in
-        omega (arith, emission_more h c e.oxidised e.burned m.oxidised m.burned most_line (weight_most head cell m.oxidised m.burned mm_most.0 mm_most.1))
+        omega (arith, emission_more h c e.oxidised e.burned m.oxidised m.burned most_line (dividend_most head cell m.oxidised m.burned mm_most.0 mm_most.1))
 
--- ---- the year depends on four figures of the head, the cell, its entry and its own row
+-- ---- the year depends on five figures of the head, the cell, its entry and its own row
+pub same_figures : {h h' : Head} → h ≡ h' → SameFigures h h'
+same_figures p = rw p (record { guard = refl; thickness = refl; char = refl; warming = refl; methane = refl })
+
 module _ {h h' : Head} (figures : SameFigures h h') (c : Cell) (e : Entry) where
   inactive_same : (t : ℕ) → inactive h c e t ≡ inactive h' c e t
   unfolding inactive
@@ -223,8 +257,8 @@ module _ {h h' : Head} (figures : SameFigures h h') (c : Cell) (e : Entry) where
   mm_same r = rw figures.guard
 
   pub emission_same : (o b : ℕ) → emission h c o b ≡ emission h' c o b
-  unfolding emission
-  emission_same o b = rw (figures.warming, figures.methane)
+  unfolding emission burned_weight
+  emission_same o b = rw (figures.char, figures.warming, figures.methane)
 
   module _ (rows rows' : ℕ → ℕ → Row) (t : ℕ) (same : unconverted e.plan t ≡ false → rows c.stratum (age e.plan t) ≡ rows' c.stratum (age e.plan t)) where
     pub mm_by_figures : year_mm h rows c e t ≡ year_mm h' rows' c e t

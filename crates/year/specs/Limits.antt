@@ -10,9 +10,10 @@ pub record WithinLimits (h : Head) (c : Cell) (oxidised burned : ℕ) : Type 0 w
   pub cell_valid : CellValid h.strata h.horizon c
   pub lost : oxidised + burned ≤ c.entered
 
--- the four figures of the head that a cell's year depends on are the same
+-- the five figures of the head that a cell's year depends on are the same
 pub record SameFigures (h h' : Head) : Type 0 where
   pub guard : h.guard ≡ h'.guard
   pub thickness : h.thickness ≡ h'.thickness
+  pub char : h.char ≡ h'.char
   pub warming : h.warming ≡ h'.warming
   pub methane : h.methane ≡ h'.methane

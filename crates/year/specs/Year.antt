@@ -1,5 +1,7 @@
--- Document 01, "A cell's year": what a cell loses, by the listing's figures h and c, its table's row r, and its entry e in the book.
-use Rattle.std.specs.Prelude.{ℕ, ◌+◌, ◌-◌, ◌*◌, ◌/◌, min, Bool, true, false, cond, ◌||◌, ltb, eqb}
+-- Document 01, "A cell's year", with the emission of document 02: what a cell loses, by the listing's figures h and c, its table's row r, and its
+-- entry e in the book.
+use Rattle.std.specs.Prelude.{◌≡◌, ℕ, ◌+◌, ◌-◌, ◌*◌, ◌/◌, ◌≤◌, min, Bool, true, false, cond, ◌||◌, ltb, eqb}
+use Rattle.fields.specs.Valid.{HeadValid}
 use Rattle.fields.specs.declared.Head.{Head}
 use Rattle.fields.specs.declared.Row.{Row}
 use Rattle.fields.specs.declared.Cell.{Cell}
@@ -50,9 +52,17 @@ no_mm = record { oxidised = 0; burned = 0 }
 unfoldable pub year_mm : Head → (ℕ → ℕ → Row) → Cell → Entry → ℕ → LostMm
 year_mm h rows c e t = cond (inactive h c e t) no_mm (mm_of h c (rows c.stratum (age e.plan t)) e)
 
--- emission to date in kg CO2e: K × (11,000 × (O + B) + 4 × G × e × B) / 30,000,000, rounded down, with K = area × q
+-- the weight of a burned mm: 1,100,000 − 11,000 × h + 400 × G × e, with char percentage h; that of an oxidised one is 1,100,000
+unfoldable pub burned_weight : Head → ℕ
+burned_weight h = 1100000 - 11000 * h.char + 400 * h.warming * h.methane
+
+-- what K times the weights of all mm lost is divided by
+abbrev pub emission_divisor : ℕ
+emission_divisor = 3000000000
+
+-- emission to date in kg CO2e: K × (1,100,000 × O + the weight of a burned mm × B) / 3,000,000,000, rounded down, with K = area × q
 unfoldable pub emission : Head → Cell → ℕ → ℕ → ℕ
-emission h c o b = c.area * c.density * (11000 * (o + b) + 4 * h.warming * h.methane * b) / 30000000
+emission h c o b = c.area * c.density * (1100000 * o + burned_weight h * b) / emission_divisor
 
 -- the kg to date of an entry
 abbrev pub kg_of : Head → Cell → Entry → ℕ
@@ -79,6 +89,18 @@ most_line = 50740800
 
 abbrev pub most_emission : ℕ
 most_emission = 816000000
+
+-- of every emission to date; proofs/Laws.antt proves it
+pub record EveryEmission : Type 0 where
+  -- the CO2 part of a burned mm counts (100 − h) hundredths, and methane is unchanged
+  pub hundredths : (h : Head) → burned_weight h ≡ 11000 * (100 - h.char) + 400 * h.warming * h.methane
+  -- the weight of a burned mm is at least 759,000 and at most 5,100,000
+  pub weight : (h : Head) → HeadValid h → (759000 ≤ burned_weight h) × (burned_weight h ≤ 5100000)
+  -- it grows in O and in B
+  pub grows : (h : Head) (c : Cell) (o b o' b' : ℕ) → o ≤ o' → b ≤ b' → emission h c o b ≤ emission h c o' b'
+  -- without char it is document 01's: K × (11,000 × (O + B) + 4 × G × e × B) / 30,000,000, rounded down
+  pub without_char : (h : Head) (c : Cell) (o b : ℕ) → h.char ≡ 0 →
+      emission h c o b ≡ c.area * c.density * (11000 * (o + b) + 4 * h.warming * h.methane * b) / 30000000
 
 -- ---- what the book holds of a cell
 

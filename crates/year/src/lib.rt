@@ -2,11 +2,14 @@
 #![tactic(auto)]
 
 ghost use Rattle.std.specs.Prelude.{◌≡◌, ◌+◌, ◌-◌, ◌^◌, ◌<◌, ◌≤◌, min};
-ghost use Rattle.fields.specs.Valid.{RowValid};
-ghost use Rattle.year.specs.Year.{unconverted, inactive, burned_by, oxidised_by, emission, kg_of, mm_of, loss_of, no_loss, opened, after_loss, planned, marked, most_loss};
+ghost use Rattle.fields.specs.Valid.{HeadValid, RowValid};
+ghost use Rattle.year.specs.Year.{unconverted, inactive, burned_by, oxidised_by, burned_weight, emission, kg_of, mm_of, loss_of, no_loss, opened, after_loss, planned, marked, most_loss};
 ghost use Rattle.year.specs.Limits.{WithinLimits};
 
 use fields::{Cell, Head, Row};
+
+// What K times the weights of all mm lost is divided by.
+const EMISSION_DIVISOR: u64 = 3_000_000_000;
 
 // `h` and `c` are two parameters throughout: the head is the listing's, read once for all cells, and a pair
 // of both, with `WithinLimits` as its fact, would have to be tied to the listing again wherever it is made.
@@ -108,16 +111,25 @@ fn oxidised_by(d: u32, o: u32, remaining: u32, burned: u32) -> u32
     o.min((remaining - burned).min(d - burned))
 }
 
+// The weight of a burned mm in an emission: the CO2 of what is not left as char, and the methane.
+#[tactic(auto, unfolding(crate::specs::Year::burned_weight))]
+fn burned_weight(h: Head) -> u64
+    requires { HeadValid h }
+    ensures { result ≡ burned_weight h }
+{
+    1_100_000 - 11_000 * u64::from(h.char) + 400 * u64::from(h.warming) * u64::from(h.methane)
+}
+
 // The emission to date of so much oxidised and burned, in kg. The products are made in u64.
-#[tactic(auto, using(crate::proofs::Laws::fit_weight), unfolding(crate::specs::Year::emission))]
+#[tactic(auto, using(crate::proofs::Laws::burned_weight_most, crate::proofs::Laws::fit_dividend), unfolding(crate::specs::Year::emission))]
 pub fn emission(h: Head, c: Cell, oxidised: u32, burned: u32) -> u32
     requires { WithinLimits h c oxidised burned }
     ensures { result ≡ emission h c oxidised burned }
 {
     let k = u64::from(c.area) * u64::from(c.density);
-    let lost = 11000 * (u64::from(oxidised) + u64::from(burned));
-    let methane = 4 * u64::from(h.warming) * u64::from(h.methane) * u64::from(burned);
-    (k * (lost + methane) / 30000000) as u32
+    let oxidation = 1_100_000 * u64::from(oxidised);
+    let burning = burned_weight(h) * u64::from(burned);
+    (k * (oxidation + burning) / EMISSION_DIVISOR) as u32
 }
 
 // What an inactive cell loses.

@@ -43,9 +43,9 @@ fn close_cell(
         listing.tables[row],
         entered - oxidised - burned,
     );
-    let before = emission(listing.methane_factor, area, oxidised, burned);
+    let before = emission(listing.burned_weight, area, oxidised, burned);
     let after = emission(
-        listing.methane_factor,
+        listing.burned_weight,
         area,
         oxidised + more_oxidised,
         burned + more_burned,

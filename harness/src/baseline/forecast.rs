@@ -37,7 +37,7 @@ fn run_cell(listing: &Listing, [depth, area]: [u32; 2], output: &mut [u64]) -> (
         let (more_oxidised, more_burned) = loss(listing.guard, row, entered - oxidised - burned);
         oxidised += more_oxidised;
         burned += more_burned;
-        let after = emission(listing.methane_factor, area, oxidised, burned);
+        let after = emission(listing.burned_weight, area, oxidised, burned);
         *kg += u64::from(after - before);
         before = after;
     }

@@ -22,7 +22,7 @@ fn kg_to_date(listing: &Listing, entries: &[[u32; 3]]) -> u64 {
     cells
         .map(|(&[_, area], &[_, oxidised, burned])| {
             let (oxidised, burned) = (bits(oxidised, 27, 0), bits(burned, 27, 0));
-            u64::from(emission(listing.methane_factor, area, oxidised, burned))
+            u64::from(emission(listing.burned_weight, area, oxidised, burned))
         })
         .sum()
 }

@@ -7,8 +7,8 @@ pub struct Listing<'a> {
     pub horizon: u32,
     /// The buffer percentage p.
     pub buffer: u32,
-    /// 4 × G × e, the methane factor of burned peat.
-    pub methane_factor: u64,
+    /// The weight of a burned mm in an emission, by h, G and e.
+    pub burned_weight: u64,
     /// The guard and the least thickness of peat in mm, from word 2 where it is of kind 7.
     pub guard: u32,
     pub thickness: u32,
@@ -52,7 +52,7 @@ impl<'a> Listing<'a> {
             strata,
             horizon,
             buffer: bits(figures, 22, 16),
-            methane_factor: u64::from(4 * bits(figures, 15, 8) * bits(figures, 7, 0)),
+            burned_weight: burned_weight(figures),
             guard,
             thickness,
             first_row,
@@ -162,10 +162,15 @@ fn size_is_valid(word: u32) -> bool {
 
 fn figures_are_valid(word: u32) -> bool {
     word >> 28 == 2
-        && bits(word, 27, 23) == 0
         && bits(word, 22, 16) <= 100
         && (1..=100).contains(&bits(word, 15, 8))
         && bits(word, 7, 0) <= 100
+}
+
+/// 1,100,000 − 11,000 × h + 400 × G × e.
+fn burned_weight(figures: u32) -> u64 {
+    let [char, warming, methane] = [(27, 23), (15, 8), (7, 0)].map(|(high, low)| bits(figures, high, low));
+    u64::from(1_100_000 - 11_000 * char + 400 * warming * methane)
 }
 
 fn row_is_valid(word: u32) -> bool {

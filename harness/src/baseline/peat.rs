@@ -25,10 +25,10 @@ pub fn loss(guard: u32, row: u32, remaining: u32) -> (u32, u32) {
     (oxidised, burned)
 }
 
-/// Emission to date in kg, by a cell's second word: at most 816,000,000.
+/// Emission to date in kg, by the weight of a burned mm and a cell's second word: at most 816,000,000.
 #[inline(always)]
-pub fn emission(methane_factor: u64, area: u32, oxidised: u32, burned: u32) -> u32 {
+pub fn emission(burned_weight: u64, area: u32, oxidised: u32, burned: u32) -> u32 {
     let carbon = u64::from(bits(area, 25, 12) * bits(area, 11, 0));
-    let shares = 11_000 * u64::from(oxidised + burned) + methane_factor * u64::from(burned);
-    (carbon * shares / 30_000_000) as u32
+    let weights = 1_100_000 * u64::from(oxidised) + burned_weight * u64::from(burned);
+    (carbon * weights / 3_000_000_000) as u32
 }

@@ -1,5 +1,5 @@
 //! Writes samples/: NAME.bin as peatrun reads it, NAME.txt in plain words, NAME.expected as it must print.
-use harness::sample::{self, NEGATIVE_TERM_TEXT, SITE_WORD_TEXT, WORKED_TEXT};
+use harness::sample::{self, CHAR_TEXT, NEGATIVE_TERM_TEXT, SITE_WORD_TEXT, WORKED_TEXT};
 use harness::site::{Cell, Content, Row, Site, SiteWord, YearlyTerm};
 use harness::{generate, reference};
 use std::fs;
@@ -90,6 +90,7 @@ fn term(year: u32, term: u32, tonnes: i32) -> YearlyTerm {
 fn worked() -> Site {
     Site {
         horizon: 2,
+        char: 0,
         buffer: 20,
         warming: 25,
         methane: 12,
@@ -103,6 +104,7 @@ fn worked() -> Site {
 fn three_cells() -> Site {
     Site {
         horizon: 3,
+        char: 0,
         buffer: 20,
         warming: 25,
         methane: 12,
@@ -129,6 +131,7 @@ fn three_cells() -> Site {
 fn thin_peat() -> Site {
     Site {
         horizon: 2,
+        char: 0,
         buffer: 15,
         warming: 28,
         methane: 9,
@@ -155,6 +158,7 @@ fn unsorted() -> Site {
     };
     Site {
         horizon: 5,
+        char: 0,
         buffer: 10,
         warming: 28,
         methane: 9,
@@ -186,6 +190,8 @@ fn accepted() -> Vec<Sample> {
         guard: 500,
         thickness: 300,
     });
+    let mut char = worked();
+    char.char = 20;
     let worked = worked();
     vec![
         Sample::of("worked", WORKED_ABOUT, &worked.contents()).expecting(WORKED_TEXT),
@@ -193,6 +199,7 @@ fn accepted() -> Vec<Sample> {
             .expecting(NEGATIVE_TERM_TEXT),
         Sample::of("worked-site-word", SITE_WORD_ABOUT, &site_word.contents())
             .expecting(SITE_WORD_TEXT),
+        Sample::of("worked-char", CHAR_ABOUT, &char.contents()).expecting(CHAR_TEXT),
         Sample::of("thin-peat", THIN_PEAT_ABOUT, &thin_peat().contents()),
         Sample::of("three-cells", THREE_CELLS_ABOUT, &three_cells().contents()),
         Sample::of("unsorted", UNSORTED_ABOUT, &unsorted().contents()),
@@ -252,6 +259,10 @@ The balance after year 2 is below what year 1 paid, so the second issue pays 0."
 const SITE_WORD_ABOUT: &str = "\
 The worked listing with a site word as word 2: guard 500 mm, least thickness of peat 300 mm.
 Year 1 burns 200 of the 340 mm that could burn, since 500 of the 700 mm above the water stay.";
+
+const CHAR_ABOUT: &str = "\
+The worked listing with a char percentage of 20 in word 1: a fifth of the carbon that burns is left as char.
+Year 1 burns the same 300 mm, and emits 5,000,000 x 11,000 x 20 x 300 / 3,000,000,000 = 110,000 kg less. Year 2 burns nothing.";
 
 const THIN_PEAT_ABOUT: &str = "\
 Three hectare cells of a site with a guard of 250 mm and a least thickness of peat of 200 mm; both stand in word 2.

@@ -122,8 +122,8 @@ impl History {
         account.number == 0 && remaining + sums.oxidised + sums.burned == entered
     }
 
-    /// Kilograms: the cell's kg lines add up to "the emission of two sums", "the formula above with
-    /// them as O and B".
+    /// Kilograms: "a cell's kilogram lines still add up to this emission of its two sums", with
+    /// "them as O and B".
     pub fn kilograms_hold(&self, cell: usize) -> bool {
         let sums = &self.of_cells[cell];
         let place = cell.try_into().unwrap();

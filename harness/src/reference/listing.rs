@@ -38,6 +38,11 @@ pub fn word_0_is_valid(listing: &[u32]) -> bool {
 
 // Word 1, kind 2.
 
+/// "Bits 27–23 of word 1 now hold a char percentage h, 0 to 31."
+pub fn char_percentage(listing: &[u32]) -> i128 {
+    bits(at(listing, 1), 27, 23)
+}
+
 /// "bits 22–16 buffer percentage p"
 pub fn buffer_percentage(listing: &[u32]) -> i128 {
     bits(at(listing, 1), 22, 16)
@@ -53,10 +58,10 @@ pub fn methane_emission_ratio(listing: &[u32]) -> i128 {
     bits(at(listing, 1), 7, 0)
 }
 
-/// Kind 2, bits 27–23 zero, p "(0–100)", G "(1–100)", e "(0–100 ..)".
+/// Kind 2, h "0 to 31", which is all that its five bits can hold, p "(0–100)", G "(1–100)", e
+/// "(0–100 ..)"; every bit is named.
 pub fn word_1_is_valid(listing: &[u32]) -> bool {
     kind(at(listing, 1)) == 2
-        && bits(at(listing, 1), 27, 23) == 0
         && (0..=100).contains(&buffer_percentage(listing))
         && (1..=100).contains(&warming_potential_of_methane(listing))
         && (0..=100).contains(&methane_emission_ratio(listing))

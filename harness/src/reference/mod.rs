@@ -1,15 +1,17 @@
 //! The reference: the peat ledger in plain Rust, to be read beside document 01 ("the paper"), and
-//! "Guard and thickness as site figures" and "Logged blocks" of document 02. Document 02 is quoted
-//! on the site word, its guard and least thickness, and the program's limit, and on all of logged
-//! blocks, with the draft methodology's EQ34 and EQ48; all else that is quoted is the paper's.
+//! "Guard and thickness as site figures", "Logged blocks" and "Char left after a fire" of document
+//! 02. Document 02 is quoted on the site word, its guard and least thickness, and the program's
+//! limit, on all of logged blocks, with the draft methodology's EQ34 and EQ48, and on the char
+//! percentage, the emission to date and what a cell's kilogram lines add up to; all else that is
+//! quoted is the paper's.
 //!
 //! It is written from these alone and shares no code with the other implementations, only the types
 //! of the answers. Words are converted to i128 when read, and back when written.
 //! In the order of the paper:
 //!
 //! - `words`: bits, kinds and numbers of a word;
-//! - `listing`: "Project listing", with the site word of document 02;
-//! - `year`: "A cell's year";
+//! - `listing`: "Project listing", with the char percentage and the site word of document 02;
+//! - `year`: "A cell's year", with the emission to date of document 02;
 //! - `book`, `lines`, `calls`, `balance`: "Book and calls", and the forecast;
 //! - `history`: "Lists of calls";
 //! - `stops`: "Where a call stops", and the numbers of document 02's "Logged blocks";
@@ -33,7 +35,7 @@ mod year;
 pub use calls::{close, forecast, issue, open, replan, statement, withdraw};
 pub use discount::discount;
 pub use history::{Fire, History};
-pub use listing::guard;
+pub use listing::{char_percentage, guard};
 pub use logging::logged;
 pub use program::program;
 pub use readings::depth;

@@ -56,7 +56,8 @@ fn head_missing(listing: &[u32]) -> Option<i128> {
     (length(listing) < HEAD_WORDS).then_some(0)
 }
 
-/// 2: "word 0 or 1: kind, zero bits or range", place: index.
+/// 2: "word 0 or 1: kind, zero bits or range", place: index. Of bits 27–23 of word 1: "Number 2 no
+/// longer covers those bits."
 fn wrong_head_word(listing: &[u32]) -> Option<i128> {
     if !word_0_is_valid(listing) {
         Some(0)

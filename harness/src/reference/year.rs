@@ -3,8 +3,9 @@
 use super::book::Entry;
 use super::lines::Lines;
 use super::listing::{
-    area, carbon_density, drainage, entered_depth, greatest_burning, greatest_oxidation, guard,
-    least_thickness, methane_emission_ratio, stratum, warming_potential_of_methane, word_of_age,
+    area, carbon_density, char_percentage, drainage, entered_depth, greatest_burning,
+    greatest_oxidation, guard, least_thickness, methane_emission_ratio, stratum,
+    warming_potential_of_methane, word_of_age,
 };
 
 /// A cell is not peat "if its entered depth is below 300 mm (not peat by section 3.3)", for 300 the
@@ -48,13 +49,15 @@ fn oxidised(d: i128, o: i128, remaining: i128, burned: i128) -> i128 {
     o.min(remaining - burned).min(d - burned)
 }
 
-/// "With O and B the cell's oxidised and burned mm to date and K = area × q, its emission to date
-/// in kg CO2e is K × (11,000 × (O + B) + 4 × G × e × B) / 30,000,000, rounded down." Nothing in it
-/// is negative, so whole-number division rounds down.
+/// "With O and B the cell's oxidised and burned mm to date and K = area × q", "Emission to date is
+/// K × (1,100,000 × O + (1,100,000 − 11,000 × h + 400 × G × e) × B) / 3,000,000,000, rounded down",
+/// in kg CO2e: "The CO2 part of burned mm counts (100 − h) hundredths; methane is unchanged." With
+/// h at most 31 nothing in it is negative, so whole-number division rounds down.
 pub fn emission(listing: &[u32], cell: i128, oxidised: i128, burned: i128) -> i128 {
     let k = area(listing, cell) * carbon_density(listing, cell);
+    let h = char_percentage(listing);
     let methane = warming_potential_of_methane(listing) * methane_emission_ratio(listing);
-    k * (11_000 * (oxidised + burned) + 4 * methane * burned) / 30_000_000
+    k * (1_100_000 * oxidised + (1_100_000 - 11_000 * h + 400 * methane) * burned) / 3_000_000_000
 }
 
 /// "Remaining depth is not stored": it is the entered depth less O and B.

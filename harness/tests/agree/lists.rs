@@ -153,6 +153,7 @@ impl<'a> ListTally<'a> {
             );
             met.count("claim asked", "depth");
             met.count("claim asked", "kilograms");
+            self.count_kilograms(met, &account);
             if self.lost[cell] > 0 {
                 met.count("claim asked", "depth of a cell that lost");
                 met.count("claim asked", "kilograms of a cell that lost");
@@ -170,6 +171,18 @@ impl<'a> ListTally<'a> {
         };
         met.count("list of calls", row);
         self.count_balances(met);
+    }
+
+    /// Whether char, and methane, had a part in a cell's kg to date.
+    fn count_kilograms(&self, met: &mut Met, account: &Account) {
+        let row = match (account.burned, account.oxidised, self.site.char) {
+            (1.., _, 0) => "that burned, without char",
+            (1.., _, _) if self.site.methane == 0 => "that burned, with char and no methane",
+            (1.., _, _) => "that burned, with char",
+            (0, 1.., 1..) => "that oxidised alone, with char",
+            _ => return,
+        };
+        met.count("kg to date of a cell", row);
     }
 
     /// What was paid is the highest balance met; an issue is not paid again where the balance fell below it and rose.

@@ -12,6 +12,7 @@ returns c =
       c.of-4.ensures,
       c.of-5.ensures,
       c.of-6.ensures,
+      c.of-7.ensures,
       c.is_of.ensures,
       c.site_figure.ensures,
       c.site_figure-2.ensures,

@@ -4,10 +4,4 @@ use Rattle.fields.proofs.is_figure_word.Goals as goal
 
 pub returns : goal.returns
 unfolding is_figure_word
-returns c = rw (
-  c.is_of.ensures,
-  c.of.ensures,
-  c.is_within.ensures,
-  c.is_within-2.ensures,
-  c.is_within-3.ensures,
-)
+returns c = rw (c.is_of.ensures, c.is_within.ensures, c.is_within-2.ensures, c.is_within-3.ensures)
