@@ -225,41 +225,41 @@ fn char_percentages() {
     });
 }
 
-/// With h = 0 a cell's kg lines add up to document 01's emission, and its mm are the same with any h.
+/// With h = 0, and where nothing burned, a cell's kg lines add up to document 01's emission; its mm are the same with any h.
 #[test]
 fn without_char() {
     let random = &mut Random(32);
-    let (mut emitted, mut less) = (0, 0);
+    let [mut burned, mut oxidised_alone, mut less] = [0; 3];
     for _ in 0..200 {
         let site = generate::any_site(random);
         let [without, with] = [0, random.between(1, 31)].map(|char| Site {
             char,
             ..site.clone()
         });
-        both(|ledger| {
+        for ledger in [&REFERENCE, &PROVED] {
             let [without, with] = [&without, &with].map(|site| sums_of_lines(ledger, site));
             for (i, cell) in site.cells.iter().enumerate() {
-                let [(o, b, kg), (with_o, with_b, with_kg)] = [without[i], with[i]];
+                let ([o, b, kg], [with_o, with_b, with_kg]) = (without[i], with[i]);
                 let k = u64::from(cell.area * cell.density);
                 let methane = u64::from(4 * site.warming * site.methane) * b;
                 assert_eq!(kg, k * (11_000 * (o + b) + methane) / 30_000_000);
-                assert_eq!((with_o, with_b), (o, b));
-                assert!(with_kg <= kg);
-                emitted += u32::from(b > 0 && kg > 0);
+                assert_eq!([with_o, with_b], [o, b]);
+                assert!(with_kg == kg || with_kg < kg && b > 0);
+                burned += u32::from(b > 0);
+                oxidised_alone += u32::from(b == 0 && kg > 0);
                 less += u32::from(with_kg < kg);
             }
-        });
+        }
     }
-    assert!(emitted > 0 && less > 0);
+    assert!(burned > 0 && oxidised_alone > 0 && less > 0);
 }
 
 /// Of each cell, its lines of all years added up: oxidised and burned mm, and kg.
-fn sums_of_lines(ledger: &Ledger, site: &Site) -> Vec<(u64, u64, u64)> {
-    let mut sums = vec![(0, 0, 0); site.cells.len()];
+fn sums_of_lines(ledger: &Ledger, site: &Site) -> Vec<[u64; LINE_WORDS]> {
+    let mut sums = vec![[0; LINE_WORDS]; site.cells.len()];
     for (lines, _) in all_years(ledger, site).0 {
-        for (sum, line) in sums.iter_mut().zip(lines.chunks_exact(LINE_WORDS)) {
-            let line = [line[0], line[1], line[2]].map(|word| u64::from(word & 0x0FFF_FFFF));
-            *sum = (sum.0 + line[0], sum.1 + line[1], sum.2 + line[2]);
+        for (sum, word) in sums.as_flattened_mut().iter_mut().zip(lines) {
+            *sum += u64::from(word & 0x0FFF_FFFF);
         }
     }
     sums

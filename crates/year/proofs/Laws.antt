@@ -1,6 +1,7 @@
 -- A cell's year: its products fit, an emission grows with what is lost, no more is lost than there is, and which figures it depends on.
 -- Assumes nothing.
 use mathlib.Core.Path.{◌≡◌, refl, sym, ap, ◌∙◌}
+use mathlib.Core.Logic.{◌⊎◌, ⊎_elim}
 use mathlib.Core.Bool.{true, false, or-true}
 use Prim.Native.Nat.{ℕ, ◌+◌, ◌-◌, ◌*◌, ◌≤◌, ◌<◌}
 use native.Mathlib.Nat.{add-zero, mul-le-mul, sub_self}
@@ -96,10 +97,11 @@ grows h c o b o' b' p q =
     let burned : b + (b' - b) ≡ b' = omega arith in
     rw (← oxidised, ← burned) (emission_grows h c o b (o' - o) (b' - b))
 
--- without char, a hundred times what document 01 divides by a hundredth of this divisor
-hundredfold : (h : Head) (c : Cell) (o b : ℕ) → h.char ≡ 0 → dividend h c o b ≡ 100 * (c.area * c.density * (11000 * (o + b) + 4 * h.warming * h.methane * b))
+-- then it is a hundred times what document 01 divides by a hundredth of this divisor
+hundredfold : (h : Head) (c : Cell) (o b : ℕ) → (h.char ≡ 0) ⊎ (b ≡ 0) →
+    dividend h c o b ≡ 100 * (c.area * c.density * (11000 * (o + b) + 4 * h.warming * h.methane * b))
 unfolding burned_weight
-hundredfold h c o b p = rw p (omega arith)
+hundredfold h c o b = ⊎_elim (λ (p : h.char ≡ 0). rw p (omega arith)) (λ (p : b ≡ 0). rw p (omega arith))
 
 pub every_emission : EveryEmission
 unfolding emission burned_weight
@@ -108,7 +110,7 @@ every_emission =
       hundredths = λ h. omega arith;
       weight = λ h head. (burned_weight_least head, burned_weight_most head);
       grows = grows;
-      without_char = λ h c o b p. omega (arith, hundredfold h c o b p);
+      unchanged = λ h c o b p. omega (arith, hundredfold h c o b p);
     }
 
 -- ---- a year's two losses, by the figures of a row

@@ -1,6 +1,6 @@
 -- Document 01, "A cell's year", with the emission of document 02: what a cell loses, by the listing's figures h and c, its table's row r, and its
 -- entry e in the book.
-use Rattle.std.specs.Prelude.{◌≡◌, ℕ, ◌+◌, ◌-◌, ◌*◌, ◌/◌, ◌≤◌, min, Bool, true, false, cond, ◌||◌, ltb, eqb}
+use Rattle.std.specs.Prelude.{◌≡◌, ◌⊎◌, ℕ, ◌+◌, ◌-◌, ◌*◌, ◌/◌, ◌≤◌, min, Bool, true, false, cond, ◌||◌, ltb, eqb}
 use Rattle.fields.specs.Valid.{HeadValid}
 use Rattle.fields.specs.declared.Head.{Head}
 use Rattle.fields.specs.declared.Row.{Row}
@@ -98,8 +98,8 @@ pub record EveryEmission : Type 0 where
   pub weight : (h : Head) → HeadValid h → (759000 ≤ burned_weight h) × (burned_weight h ≤ 5100000)
   -- it grows in O and in B
   pub grows : (h : Head) (c : Cell) (o b o' b' : ℕ) → o ≤ o' → b ≤ b' → emission h c o b ≤ emission h c o' b'
-  -- without char it is document 01's: K × (11,000 × (O + B) + 4 × G × e × B) / 30,000,000, rounded down
-  pub without_char : (h : Head) (c : Cell) (o b : ℕ) → h.char ≡ 0 →
+  -- without char, and where nothing burned, it is document 01's: K × (11,000 × (O + B) + 4 × G × e × B) / 30,000,000, rounded down
+  pub unchanged : (h : Head) (c : Cell) (o b : ℕ) → (h.char ≡ 0) ⊎ (b ≡ 0) →
       emission h c o b ≡ c.area * c.density * (11000 * (o + b) + 4 * h.warming * h.methane * b) / 30000000
 
 -- ---- what the book holds of a cell

@@ -169,7 +169,8 @@ fn figures_are_valid(word: u32) -> bool {
 
 /// 1,100,000 − 11,000 × h + 400 × G × e.
 fn burned_weight(figures: u32) -> u64 {
-    let [char, warming, methane] = [(27, 23), (15, 8), (7, 0)].map(|(high, low)| bits(figures, high, low));
+    let [char, warming, methane] =
+        [(27, 23), (15, 8), (7, 0)].map(|(high, low)| bits(figures, high, low));
     u64::from(1_100_000 - 11_000 * char + 400 * warming * methane)
 }
 
