@@ -23,7 +23,7 @@
  *
  *   no.  met by                condition                                               place
  *    1   every listing         fewer than 2 words                                      0
- *    2                         word 0 or 1: kind, zero bits or range                   index of the word
+ *    2                         word 0 or 1: kind or range                              index of the word
  *    3                         fewer words than strata * horizon + 2 * cells + 2,      length of the listing
  *                              or + 3 with a site word
  *    4                         a later word: kind, zero bits or range                  index of the word
