@@ -75,10 +75,11 @@ const GROUPS: &[(&str, &[&str])] = &[
     (
         "kg to date of a cell",
         &[
-            "that burned, with char",
+            "that burned, with char and methane",
             "that burned, with char and no methane",
             "that burned, without char",
             "that oxidised alone, with char",
+            "that oxidised alone, without char",
         ],
     ),
     ("refused in a list", &["7", "9", "10", "11", "12", "13"]),

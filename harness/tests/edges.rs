@@ -183,8 +183,10 @@ fn emissions_with_char() {
         (1, 1, 0, 1, 1, 0, 2_754, 0),
         (0, 1, 0, 1, 1, 0, 2_754, 1),
         (1, 1, 0, 1, 1, 0, 2_755, 1),
-        // 16,793 × 5,089,000 / 3,000,000,000 is 28.4 and more.
-        (1, 100, 100, 7, 2_399, 0, 1, 28),
+        // 16,793 × 5,089,000 × 6 / 3,000,000,000 is 170.9; without char 171, with char off the methane too 169.
+        (1, 100, 100, 7, 2_399, 0, 6, 170),
+        // 1,100,000 × 1,364 + 1,089,000 × 1,378 is above 3,000,000,000, and neither part is: they are not rounded each.
+        (1, 1, 0, 1, 1, 1_364, 1_378, 1),
     ];
     for (char, warming, methane, area, density, oxidised, burned, kg) in rows {
         let row = Row {
@@ -226,18 +228,24 @@ fn char_percentages() {
 }
 
 /// With h = 0, and where nothing burned, a cell's kg lines add up to document 01's emission; its mm are the same with any h.
+/// The buffer percentage beside h in word 1 changes no line.
 #[test]
 fn without_char() {
     let random = &mut Random(32);
     let [mut burned, mut oxidised_alone, mut less] = [0; 3];
     for _ in 0..200 {
         let site = generate::any_site(random);
-        let [without, with] = [0, random.between(1, 31)].map(|char| Site {
+        let (char, buffer) = (random.between(1, 31), site.buffer);
+        let sites = [(0, buffer), (0, 100 - buffer), (char, buffer)];
+        let sites = sites.map(|(char, buffer)| Site {
             char,
+            buffer,
             ..site.clone()
         });
         for ledger in [&REFERENCE, &PROVED] {
-            let [without, with] = [&without, &with].map(|site| sums_of_lines(ledger, site));
+            let sums = |site| sums_of_lines(ledger, site);
+            let [without, other_buffer, with] = sites.each_ref().map(sums);
+            assert_eq!(other_buffer, without);
             for (i, cell) in site.cells.iter().enumerate() {
                 let ([o, b, kg], [with_o, with_b, with_kg]) = (without[i], with[i]);
                 let k = u64::from(cell.area * cell.density);
@@ -705,7 +713,7 @@ fn largest() {
     });
 }
 
-/// The greatest year of a cell: its kg line is 50,740,800, far below the limit of 14.
+/// The greatest year of a cell: its kg line is 50,740,800, far below the limit of 14, and less with char.
 #[test]
 fn greatest_line() {
     let row = Row {
@@ -714,14 +722,16 @@ fn greatest_line() {
         burning: 1_023,
     };
     let mut listing = one_cell(row, 20_000);
-    listing[1] = 2 << 28 | 100 << 8 | 100;
     listing[4] = 5 << 28 | 10_000 << 12 | 2_400;
-    both(|ledger| {
-        let (mut book, mut lines) = ([0; 5], [0; 3]);
-        assert_eq!((ledger.open)(&listing, &mut book), accepted(0));
-        assert_eq!((ledger.close)(&listing, &mut book, &mut lines), accepted(0));
-        assert_eq!(lines[2], 15 << 28 | 50_740_800);
-    });
+    for (char, kg) in [(0, 50_740_800), (1, 50_650_776), (31, 47_950_056)] {
+        listing[1] = 2 << 28 | char << 23 | 100 << 8 | 100;
+        both(|ledger| {
+            let (mut book, mut lines) = ([0; 5], [0; 3]);
+            assert_eq!((ledger.open)(&listing, &mut book), accepted(0));
+            assert_eq!((ledger.close)(&listing, &mut book, &mut lines), accepted(0));
+            assert_eq!(lines[2], 15 << 28 | kg);
+        });
+    }
 }
 
 /// One mm, one kg or one tonne too many returned breaks a claim on lists of calls: none is true of itself.
@@ -729,6 +739,7 @@ fn greatest_line() {
 fn claims_that_fail() {
     claims_fail_of(&WORKED, 553);
     claims_fail_of(&with_site_word(SITE_WORD), 391);
+    claims_fail_of(&worked_with(1, CHAR_WORD), 465);
 }
 
 /// Of a listing whose first year burns as much as the guard lets it, and pays so many tonnes.
@@ -756,7 +767,7 @@ fn claims_fail_of(listing: &[u32], tonnes: u32) {
     let (history, _) = closed([1, 0, 0]);
     assert!(!history.depth_holds(0, &account) && !history.kilograms_hold(0));
     let (history, dry) = closed([0, 1, 0]);
-    assert!(!history.depth_holds(0, &account) && !dry);
+    assert!(!history.depth_holds(0, &account) && !dry && !history.kilograms_hold(0));
     for more in [1, u32::MAX] {
         let mut history = History::opened(listing);
         history.closed(&[lines[0], lines[1], lines[2].wrapping_add(more)]);
@@ -798,7 +809,7 @@ fn small_cells_emit() {
         let mut output = [0; 100];
         let answer = (ledger.forecast)(&site.words(), &mut [0; 5], &mut output);
         assert_eq!(answer, accepted(0));
-        // 11,000 × 4,500 / 30,000,000 rounded down.
+        // 1,100,000 × 4,500 / 3,000,000,000 rounded down.
         assert_eq!(output.iter().sum::<u64>(), 1);
     });
 }

@@ -47,7 +47,7 @@ fn samples() {
             count += 1;
         }
     }
-    assert!(count >= 16);
+    assert!(count >= 17);
 }
 
 #[test]

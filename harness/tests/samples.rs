@@ -1,4 +1,8 @@
 //! The files of samples/: companions against the bytes, expected texts against the reference and what was worked on paper.
+use harness::sample::{
+    with_site_word, worked_with, CHAR_TEXT, CHAR_WORD, NEGATIVE_TERM, NEGATIVE_TERM_TEXT,
+    SITE_WORD, SITE_WORD_TEXT, WORKED, WORKED_TEXT,
+};
 use harness::{reference, sample};
 use std::fs;
 use std::path::Path;
@@ -118,21 +122,21 @@ fn the_reference_gives_the_expected_text() {
 
 #[test]
 fn worked_ones_are_those_worked_on_paper() {
-    let worked = sample::bytes(&sample::WORKED);
-    let with_term = [&worked[..], &sample::NEGATIVE_TERM.to_le_bytes()].concat();
-    assert_eq!(read("worked", "bin"), worked);
-    assert_eq!(text("worked", "expected"), sample::WORKED_TEXT);
-    assert_eq!(read("worked-negative-term", "bin"), with_term);
-    assert_eq!(
-        text("worked-negative-term", "expected"),
-        sample::NEGATIVE_TERM_TEXT
-    );
-    let with_site_word = sample::with_site_word(sample::SITE_WORD);
-    assert_eq!(
-        read("worked-site-word", "bin"),
-        sample::bytes(&with_site_word)
-    );
-    assert_eq!(text("worked-site-word", "expected"), sample::SITE_WORD_TEXT);
+    let with_term = [&WORKED[..], &[NEGATIVE_TERM]].concat();
+    let worked = [
+        ("worked", WORKED.to_vec(), WORKED_TEXT),
+        ("worked-negative-term", with_term, NEGATIVE_TERM_TEXT),
+        (
+            "worked-site-word",
+            with_site_word(SITE_WORD),
+            SITE_WORD_TEXT,
+        ),
+        ("worked-char", worked_with(1, CHAR_WORD), CHAR_TEXT),
+    ];
+    for (name, words, printed) in worked {
+        assert_eq!(read(name, "bin"), sample::bytes(&words));
+        assert_eq!(text(name, "expected"), printed);
+    }
 }
 
 #[test]

@@ -43,7 +43,7 @@ later_checked l h s =
     (need (is_site_valid h) later_word site_at
     (words_checked l h s))
 
--- the answer for any list of words: 1, fewer than 2; 2, word 0 or 1 by kind, zero bits or range; then the rest
+-- the answer for any list of words: 1, fewer than 2; 2, word 0 or 1 by kind or range; then the rest
 unfoldable pub checked : List ℕ → Answer
 checked l =
     need (leb least_words (length l)) too_few_words 0

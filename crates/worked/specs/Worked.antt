@@ -93,10 +93,6 @@ char_after_one = 0x80000001 ∷ 0x900001D1 ∷ 0xA0000001 ∷ 0xB000002D ∷ 0xC
 abbrev pub char_after_two : List ℕ
 char_after_two = 0x80000002 ∷ 0x90000214 ∷ 0xA0000001 ∷ 0xB000005A ∷ 0xC000012C ∷ []
 
--- the emission of 45 mm oxidised and 300 burned with that word 1
-abbrev pub emits : ℕ → List ℕ
-emits w = emission (head (with_word_1 w)) (cell_entered 2000) 45 300 ∷ []
-
 -- the number and the place of a refused listing
 abbrev pub refusal : List ℕ → List ℕ
 refusal l = (checked l).number ∷ (checked l).place ∷ []
@@ -164,7 +160,7 @@ rows =
     ∷ row (burns 30 45 0 2000) (0 ∷ 30 ∷ [])
     ∷ row (enters 299) (0 ∷ 0 ∷ [])
     ∷ row (enters 300) (300 ∷ 0 ∷ [])
-    ∷ row (emits 0x2014190C) (692500 ∷ [])
+    ∷ row (emission (head listing) (cell_entered 2000) 45 300 ∷ []) (692500 ∷ [])
     ∷ row (open_effect listing (zeros 5)).book opened
     ∷ row (year listing opened) (45 ∷ 300 ∷ 692500 ∷ 553 ∷ after_one)
     ∷ row (year listing after_one) (45 ∷ 0 ∷ 82500 ∷ 67 ∷ after_two)
@@ -183,11 +179,12 @@ rows =
     ∷ row (refusal guard_2001) (4 ∷ 2 ∷ [])
     ∷ row (refusal row_of_kind_7) (3 ∷ 6 ∷ [])
     ∷ row (refusal word_1_of_kind_7) (2 ∷ 1 ∷ [])
-    ∷ row (emits 0x2094190C) (687000 ∷ [])
-    ∷ row (emits 0x2F94190C) (522000 ∷ [])
+    ∷ row (take 4 (year (with_word_1 0x2094190C) opened)) (45 ∷ 300 ∷ 687000 ∷ 549 ∷ [])
+    ∷ row (take 4 (year (with_word_1 0x2F94190C) opened)) (45 ∷ 300 ∷ 522000 ∷ 417 ∷ [])
     ∷ row (year with_char opened) (45 ∷ 300 ∷ 582500 ∷ 465 ∷ char_after_one)
     ∷ row (year with_char char_after_one) (45 ∷ 0 ∷ 82500 ∷ 67 ∷ char_after_two)
     ∷ row ((statement_answer with_char char_after_two 0).figures.remaining ∷ []) (1610 ∷ [])
+    ∷ row ((statement_answer with_char char_after_two 0).figures.kg ∷ []) (665000 ∷ [])
     ∷ row (refusal (with_word_1 0x2FE5190C)) (2 ∷ 1 ∷ [])
     ∷ row (logged_test 2 1 (100 ∷ 50 ∷ 30 ∷ []) (10 ∷ 10 ∷ []) (8000 ∷ [])) (0 ∷ 0 ∷ 72 ∷ 0 ∷ [])
     ∷ row (logged_test 3 2 densities areas discounts) (0 ∷ 0 ∷ 2153 ∷ 0 ∷ [])

@@ -97,7 +97,7 @@ grows h c o b o' b' p q =
     let burned : b + (b' - b) ≡ b' = omega arith in
     rw (← oxidised, ← burned) (emission_grows h c o b (o' - o) (b' - b))
 
--- then it is a hundred times what document 01 divides by a hundredth of this divisor
+-- without char, or with nothing burned, it is a hundred times what document 01 divides by a hundredth of this divisor
 hundredfold : (h : Head) (c : Cell) (o b : ℕ) → (h.char ≡ 0) ⊎ (b ≡ 0) →
     dividend h c o b ≡ 100 * (c.area * c.density * (11000 * (o + b) + 4 * h.warming * h.methane * b))
 unfolding burned_weight

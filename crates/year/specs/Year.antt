@@ -52,7 +52,7 @@ no_mm = record { oxidised = 0; burned = 0 }
 unfoldable pub year_mm : Head → (ℕ → ℕ → Row) → Cell → Entry → ℕ → LostMm
 year_mm h rows c e t = cond (inactive h c e t) no_mm (mm_of h c (rows c.stratum (age e.plan t)) e)
 
--- the weight of a burned mm: 1,100,000 − 11,000 × h + 400 × G × e, with char percentage h; that of an oxidised one is 1,100,000
+-- the weight of a burned mm: 1,100,000 − 11,000 × the char percentage + 400 × G × e; that of an oxidised mm is 1,100,000
 unfoldable pub burned_weight : Head → ℕ
 burned_weight h = 1100000 - 11000 * h.char + 400 * h.warming * h.methane
 
@@ -92,13 +92,13 @@ most_emission = 816000000
 
 -- of every emission to date; proofs/Laws.antt proves it
 pub record EveryEmission : Type 0 where
-  -- the CO2 part of a burned mm counts (100 − h) hundredths, and methane is unchanged
+  -- the CO2 part of a burned mm counts 100 hundredths less the char percentage, and methane is unchanged
   pub hundredths : (h : Head) → burned_weight h ≡ 11000 * (100 - h.char) + 400 * h.warming * h.methane
   -- the weight of a burned mm is at least 759,000 and at most 5,100,000
   pub weight : (h : Head) → HeadValid h → (759000 ≤ burned_weight h) × (burned_weight h ≤ 5100000)
   -- it grows in O and in B
   pub grows : (h : Head) (c : Cell) (o b o' b' : ℕ) → o ≤ o' → b ≤ b' → emission h c o b ≤ emission h c o' b'
-  -- without char, and where nothing burned, it is document 01's: K × (11,000 × (O + B) + 4 × G × e × B) / 30,000,000, rounded down
+  -- without char, or where nothing burned, it is document 01's: K × (11,000 × (O + B) + 4 × G × e × B) / 30,000,000, rounded down
   pub unchanged : (h : Head) (c : Cell) (o b : ℕ) → (h.char ≡ 0) ⊎ (b ≡ 0) →
       emission h c o b ≡ c.area * c.density * (11000 * (o + b) + 4 * h.warming * h.methane * b) / 30000000
 

@@ -35,7 +35,7 @@ mod year;
 pub use calls::{close, forecast, issue, open, replan, statement, withdraw};
 pub use discount::discount;
 pub use history::{Fire, History};
-pub use listing::{char_percentage, guard};
+pub use listing::guard;
 pub use logging::logged;
 pub use program::program;
 pub use readings::depth;

@@ -173,14 +173,15 @@ impl<'a> ListTally<'a> {
         self.count_balances(met);
     }
 
-    /// Whether char, and methane, had a part in a cell's kg to date.
+    /// What a cell lost that emitted something, and whether its listing has char and methane.
     fn count_kilograms(&self, met: &mut Met, account: &Account) {
-        let row = match (account.burned, account.oxidised, self.site.char) {
-            (1.., _, 0) => "that burned, without char",
-            (1.., _, _) if self.site.methane == 0 => "that burned, with char and no methane",
-            (1.., _, _) => "that burned, with char",
-            (0, 1.., 1..) => "that oxidised alone, with char",
-            _ => return,
+        let row = match (account.burned, self.site.char) {
+            _ if account.kg == 0 => return,
+            (0, 0) => "that oxidised alone, without char",
+            (0, _) => "that oxidised alone, with char",
+            (_, 0) => "that burned, without char",
+            _ if self.site.methane == 0 => "that burned, with char and no methane",
+            _ => "that burned, with char and methane",
         };
         met.count("kg to date of a cell", row);
     }
