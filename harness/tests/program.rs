@@ -47,7 +47,7 @@ fn samples() {
             count += 1;
         }
     }
-    assert!(count >= 17);
+    assert!(count >= 18);
 }
 
 #[test]

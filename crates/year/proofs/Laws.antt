@@ -97,6 +97,17 @@ grows h c o b o' b' p q =
     let burned : b + (b' - b) ≡ b' = omega arith in
     rw (← oxidised, ← burned) (emission_grows h c o b (o' - o) (b' - b))
 
+burned_weight_falls : (h h' : Head) → h.char ≤ h'.char → h.warming ≡ h'.warming → h.methane ≡ h'.methane → burned_weight h' ≤ burned_weight h
+unfolding burned_weight
+burned_weight_falls h h' p q r = rw (q, r) (omega arith)
+
+falls : (h h' : Head) (c : Cell) (o b : ℕ) → h.char ≤ h'.char → h.warming ≡ h'.warming → h.methane ≡ h'.methane → emission h' c o b ≤ emission h c o b
+unfolding emission
+falls h h' c o b p q r =
+    let burning : burned_weight h' * b ≤ burned_weight h * b = mul-le-mul (burned_weight_falls h h' p q r) (omega arith) in
+    let less : dividend h' c o b ≤ dividend h c o b = mul-le-mul (omega arith) (omega (arith, burning)) in
+    omega (arith, less)
+
 -- without char, or with nothing burned, it is a hundred times what document 01 divides by a hundredth of this divisor
 hundredfold : (h : Head) (c : Cell) (o b : ℕ) → (h.char ≡ 0) ⊎ (b ≡ 0) →
     dividend h c o b ≡ 100 * (c.area * c.density * (11000 * (o + b) + 4 * h.warming * h.methane * b))
@@ -110,6 +121,7 @@ every_emission =
       hundredths = λ h. omega arith;
       weight = λ h head. (burned_weight_least head, burned_weight_most head);
       grows = grows;
+      falls = falls;
       unchanged = λ h c o b p. omega (arith, hundredfold h c o b p);
     }
 

@@ -98,6 +98,8 @@ pub record EveryEmission : Type 0 where
   pub weight : (h : Head) → HeadValid h → (759000 ≤ burned_weight h) × (burned_weight h ≤ 5100000)
   -- it grows in O and in B
   pub grows : (h : Head) (c : Cell) (o b o' b' : ℕ) → o ≤ o' → b ≤ b' → emission h c o b ≤ emission h c o' b'
+  -- a greater char percentage makes it no greater
+  pub falls : (h h' : Head) (c : Cell) (o b : ℕ) → h.char ≤ h'.char → h.warming ≡ h'.warming → h.methane ≡ h'.methane → emission h' c o b ≤ emission h c o b
   -- without char, or where nothing burned, it is document 01's: K × (11,000 × (O + B) + 4 × G × e × B) / 30,000,000, rounded down
   pub unchanged : (h : Head) (c : Cell) (o b : ℕ) → (h.char ≡ 0) ⊎ (b ≡ 0) →
       emission h c o b ≡ c.area * c.density * (11000 * (o + b) + 4 * h.warming * h.methane * b) / 30000000

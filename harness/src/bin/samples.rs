@@ -192,6 +192,8 @@ fn accepted() -> Vec<Sample> {
     });
     let mut char = worked();
     char.char = 20;
+    let mut three_cells_char = three_cells();
+    three_cells_char.char = 13;
     let worked = worked();
     vec![
         Sample::of("worked", WORKED_ABOUT, &worked.contents()).expecting(WORKED_TEXT),
@@ -202,6 +204,11 @@ fn accepted() -> Vec<Sample> {
         Sample::of("worked-char", CHAR_ABOUT, &char.contents()).expecting(CHAR_TEXT),
         Sample::of("thin-peat", THIN_PEAT_ABOUT, &thin_peat().contents()),
         Sample::of("three-cells", THREE_CELLS_ABOUT, &three_cells().contents()),
+        Sample::of(
+            "three-cells-char",
+            THREE_CELLS_CHAR_ABOUT,
+            &three_cells_char.contents(),
+        ),
         Sample::of("unsorted", UNSORTED_ABOUT, &unsorted().contents()),
         Sample::of("largest", LARGEST_ABOUT, &generate::largest().contents()),
     ]
@@ -276,6 +283,10 @@ Cell 0 is converted in year 1 and burns 100 mm then; the guard of 400 mm keeps t
 Cell 1 is converted in year 2, so year 2 is its age 1.
 Cell 2 has 250 mm: below 300 mm it is not peat, and loses nothing.
 Terms: avoided deforestation (1) and harvest areas (4) add, displaced conversion (5) and extraction (6) take away.";
+
+const THREE_CELLS_CHAR_ABOUT: &str = "\
+The site of three-cells.txt with a char percentage of 13: word 1's second to fourth digit are 13 x 128 + 20 = 1,684, hexadecimal 694.
+Each burned mm has the factor 1,100,000 - 143,000 + 400 x 25 x 12 = 1,077,000 instead of 1,220,000; nothing else differs.";
 
 const UNSORTED_ABOUT: &str = "\
 Seven cells of four strata, not sorted by stratum; each stratum has figures of its own.
