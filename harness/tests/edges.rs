@@ -138,15 +138,18 @@ fn site_figures() {
     }
 }
 
-/// The worked listing with a site word, and with a char percentage of 20, 1 and 31: burned mm, kg and tonnes of year 1,
-/// tonnes of year 2, and the mm left.
+/// The worked listing with a site word, with a char percentage of 20, 1 and 31, and with a site word and one of 2: burned
+/// mm, kg and tonnes of year 1, tonnes of year 2, and the mm left.
 #[test]
 fn worked_requests() {
+    let mut site_and_char = with_site_word(SITE_WORD);
+    site_and_char[1] = 0x2114_190C;
     let rows = [
         (with_site_word(SITE_WORD), 200, 489_166, 391, 65, 1_710),
         (worked_with(1, CHAR_WORD), 300, 582_500, 465, 67, 1_610),
         (worked_with(1, 0x2094_190C), 300, 687_000, 549, 66, 1_610),
         (worked_with(1, 0x2F94_190C), 300, 522_000, 417, 66, 1_610),
+        (site_and_char, 200, 481_833, 384, 67, 1_710),
     ];
     for (listing, burned, kg, first, second, left) in rows {
         both(|ledger| {

@@ -93,6 +93,10 @@ char_after_one = 0x80000001 ∷ 0x900001D1 ∷ 0xA0000001 ∷ 0xB000002D ∷ 0xC
 abbrev pub char_after_two : List ℕ
 char_after_two = 0x80000002 ∷ 0x90000214 ∷ 0xA0000001 ∷ 0xB000005A ∷ 0xC000012C ∷ []
 
+-- with the site word and a char percentage of 2: an emission that is not whole
+abbrev pub with_site_and_char : List ℕ
+with_site_and_char = 0x10010102 ∷ 0x2114190C ∷ 0x707D012C ∷ 0x3460B554 ∷ 0x3460B400 ∷ 0x400107D0 ∷ 0x527101F4 ∷ []
+
 -- the number and the place of a refused listing
 abbrev pub refusal : List ℕ → List ℕ
 refusal l = (checked l).number ∷ (checked l).place ∷ []
@@ -185,6 +189,7 @@ rows =
     ∷ row (year with_char char_after_one) (45 ∷ 0 ∷ 82500 ∷ 67 ∷ char_after_two)
     ∷ row ((statement_answer with_char char_after_two 0).figures.remaining ∷ []) (1610 ∷ [])
     ∷ row ((statement_answer with_char char_after_two 0).figures.kg ∷ []) (665000 ∷ [])
+    ∷ row (take 4 (year with_site_and_char opened)) (45 ∷ 200 ∷ 481833 ∷ 384 ∷ [])
     ∷ row (refusal (with_word_1 0x2FE5190C)) (2 ∷ 1 ∷ [])
     ∷ row (logged_test 2 1 (100 ∷ 50 ∷ 30 ∷ []) (10 ∷ 10 ∷ []) (8000 ∷ [])) (0 ∷ 0 ∷ 72 ∷ 0 ∷ [])
     ∷ row (logged_test 3 2 densities areas discounts) (0 ∷ 0 ∷ 2153 ∷ 0 ∷ [])

@@ -1,7 +1,7 @@
 -- A cell's year: its products fit, an emission grows with what is lost, no more is lost than there is, and which figures it depends on.
 -- Assumes nothing.
 use mathlib.Core.Path.{◌≡◌, refl, sym, ap, ◌∙◌}
-use mathlib.Core.Logic.{◌⊎◌, ⊎_elim}
+use mathlib.Core.Logic.{⊎_elim}
 use mathlib.Core.Bool.{true, false, or-true}
 use Prim.Native.Nat.{ℕ, ◌+◌, ◌-◌, ◌*◌, ◌≤◌, ◌<◌}
 use native.Mathlib.Nat.{add-zero, mul-le-mul, sub_self}
@@ -108,21 +108,15 @@ falls h h' c o b p q r =
     let less : dividend h' c o b ≤ dividend h c o b = mul-le-mul (omega arith) (omega (arith, burning)) in
     omega (arith, less)
 
--- without char, or with nothing burned, it is a hundred times what document 01 divides by a hundredth of this divisor
-hundredfold : (h : Head) (c : Cell) (o b : ℕ) → (h.char ≡ 0) ⊎ (b ≡ 0) →
-    dividend h c o b ≡ 100 * (c.area * c.density * (11000 * (o + b) + 4 * h.warming * h.methane * b))
-unfolding burned_weight
-hundredfold h c o b = ⊎_elim (λ (p : h.char ≡ 0). rw p (omega arith)) (λ (p : b ≡ 0). rw p (omega arith))
-
 pub every_emission : EveryEmission
 unfolding emission burned_weight
 every_emission =
     record {
       hundredths = λ h. omega arith;
-      weight = λ h head. (burned_weight_least head, burned_weight_most head);
-      grows = grows;
-      falls = falls;
-      unchanged = λ h c o b p. omega (arith, hundredfold h c o b p);
+      weight = λ h head. (omega (arith, burned_weight_least head), omega (arith, burned_weight_most head));
+      grows = λ h c o b o' b' p q. grows h c o b o' b' (omega arith) (omega arith);
+      falls = λ h h' c o b p q r. falls h h' c o b (omega arith) q r;
+      unchanged = λ h c o b p. ⊎_elim (λ q. rw q (omega arith)) (λ q. rw q (omega arith)) p;
     }
 
 -- ---- a year's two losses, by the figures of a row
