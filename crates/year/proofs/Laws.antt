@@ -14,8 +14,8 @@ use Rattle.fields.specs.Valid.{HeadValid, RowValid, CellValid}
 use Rattle.fields.specs.declared.Head.{Head}
 use Rattle.fields.specs.declared.Row.{Row}
 use Rattle.fields.specs.declared.Cell.{Cell}
-use Rattle.year.specs.Year.{unconverted, inactive, age, drained, remaining, burned_by, oxidised_by, burned_mm, mm_of, no_mm, year_mm, burned_weight, emission_divisor, emission, kg_of, loss_of, year_loss}
-use Rattle.year.specs.Year.{EveryEmission, no_loss, most_line, most_emission, most_loss, after_loss}
+use Rattle.year.specs.Year.{unconverted, inactive, age, drained, remaining, burned_by, oxidised_by, burned_mm, mm_of, no_mm, year_mm, kg_of, loss_of, year_loss}
+use Rattle.year.specs.Year.{burned_weight, emission_divisor, emission, EveryEmission, no_loss, most_line, most_emission, most_loss, after_loss}
 use Rattle.year.specs.Limits.{WithinLimits, SameFigures}
 use Rattle.year.specs.declared.Entry.{Entry}
 use Rattle.year.specs.declared.LostMm.{LostMm}
