@@ -56,9 +56,16 @@ after_one = 0x80000001 ∷ 0x90000229 ∷ 0xA0000001 ∷ 0xB000002D ∷ 0xC00001
 abbrev pub after_two : List ℕ
 after_two = 0x80000002 ∷ 0x9000026C ∷ 0xA0000001 ∷ 0xB000005A ∷ 0xC000012C ∷ []
 
--- the first listing with guard 500 and least thickness 300 in a site word, and its books after each of its years
+-- the first listing with another word 1, and with a word 1 and a site word
+abbrev pub with_word_1 : ℕ → List ℕ
+with_word_1 w = 0x10010102 ∷ w ∷ 0x3460B554 ∷ 0x3460B400 ∷ 0x400107D0 ∷ 0x527101F4 ∷ []
+
+abbrev pub with_words : ℕ → ℕ → List ℕ
+with_words w x = 0x10010102 ∷ w ∷ x ∷ 0x3460B554 ∷ 0x3460B400 ∷ 0x400107D0 ∷ 0x527101F4 ∷ []
+
+-- with guard 500 and least thickness 300, and its books after each of its years
 abbrev pub with_site : List ℕ
-with_site = 0x10010102 ∷ 0x2014190C ∷ 0x707D012C ∷ 0x3460B554 ∷ 0x3460B400 ∷ 0x400107D0 ∷ 0x527101F4 ∷ []
+with_site = with_words 0x2014190C 0x707D012C
 
 abbrev pub site_after_one : List ℕ
 site_after_one = 0x80000001 ∷ 0x90000187 ∷ 0xA0000001 ∷ 0xB000002D ∷ 0xC00000C8 ∷ []
@@ -68,22 +75,16 @@ site_after_two = 0x80000002 ∷ 0x900001C8 ∷ 0xA0000001 ∷ 0xB000005A ∷ 0xC
 
 -- what is refused: that listing with least thickness 2,001, and with guard 2,001 before a first row of kind 0
 abbrev pub thickness_2001 : List ℕ
-thickness_2001 = 0x10010102 ∷ 0x2014190C ∷ 0x707D07D1 ∷ 0x3460B554 ∷ 0x3460B400 ∷ 0x400107D0 ∷ 0x527101F4 ∷ []
+thickness_2001 = with_words 0x2014190C 0x707D07D1
 
 abbrev pub guard_2001 : List ℕ
 guard_2001 = 0x10010102 ∷ 0x2014190C ∷ 0x71F4412C ∷ 0x0460B554 ∷ 0x3460B400 ∷ 0x400107D0 ∷ 0x527101F4 ∷ []
 
--- and the first listing with kind 7 in place of its first row's, and of its word 1's
+-- and the first listing with kind 7 in place of its first row's
 abbrev pub row_of_kind_7 : List ℕ
 row_of_kind_7 = 0x10010102 ∷ 0x2014190C ∷ 0x7460B554 ∷ 0x3460B400 ∷ 0x400107D0 ∷ 0x527101F4 ∷ []
 
-abbrev pub word_1_of_kind_7 : List ℕ
-word_1_of_kind_7 = 0x10010102 ∷ 0x7014190C ∷ 0x3460B554 ∷ 0x3460B400 ∷ 0x400107D0 ∷ 0x527101F4 ∷ []
-
--- the first listing with another word 1, and with char percentage 20 its books after each of its years
-abbrev pub with_word_1 : ℕ → List ℕ
-with_word_1 w = 0x10010102 ∷ w ∷ 0x3460B554 ∷ 0x3460B400 ∷ 0x400107D0 ∷ 0x527101F4 ∷ []
-
+-- with char percentage 20, and its books after each of its years
 abbrev pub with_char : List ℕ
 with_char = with_word_1 0x2A14190C
 
@@ -95,7 +96,7 @@ char_after_two = 0x80000002 ∷ 0x90000214 ∷ 0xA0000001 ∷ 0xB000005A ∷ 0xC
 
 -- with the site word and a char percentage of 2: an emission that is not whole
 abbrev pub with_site_and_char : List ℕ
-with_site_and_char = 0x10010102 ∷ 0x2114190C ∷ 0x707D012C ∷ 0x3460B554 ∷ 0x3460B400 ∷ 0x400107D0 ∷ 0x527101F4 ∷ []
+with_site_and_char = with_words 0x2114190C 0x707D012C
 
 -- the number and the place of a refused listing
 abbrev pub refusal : List ℕ → List ℕ
@@ -182,7 +183,7 @@ rows =
     ∷ row (refusal thickness_2001) (4 ∷ 2 ∷ [])
     ∷ row (refusal guard_2001) (4 ∷ 2 ∷ [])
     ∷ row (refusal row_of_kind_7) (3 ∷ 6 ∷ [])
-    ∷ row (refusal word_1_of_kind_7) (2 ∷ 1 ∷ [])
+    ∷ row (refusal (with_word_1 0x7014190C)) (2 ∷ 1 ∷ [])
     ∷ row (take 4 (year (with_word_1 0x2094190C) opened)) (45 ∷ 300 ∷ 687000 ∷ 549 ∷ [])
     ∷ row (take 4 (year (with_word_1 0x2F94190C) opened)) (45 ∷ 300 ∷ 522000 ∷ 417 ∷ [])
     ∷ row (year with_char opened) (45 ∷ 300 ∷ 582500 ∷ 465 ∷ char_after_one)

@@ -211,12 +211,12 @@ fn year(rt: &impl Print, l: &[u32], b: &mut [u32], x: &mut [u32], i: usize) {
     print_amount(rt, "issue", ledger::issue(l, b));
 }
 
-// The mm left of the first cell.
-fn print_left(rt: &impl Print, l: &[u32], b: &[u32]) {
+// The mm left of cell `i`.
+fn print_left(rt: &impl Print, name: &str, l: &[u32], b: &[u32], i: usize) {
     print_answer(
         rt,
-        "left",
-        ledger::statement(l, b, 0),
+        name,
+        ledger::statement(l, b, i),
         |figures| u64::from(figures.remaining),
     );
 }
@@ -225,13 +225,8 @@ fn print_left(rt: &impl Print, l: &[u32], b: &[u32]) {
 fn converted(rt: &impl Print, l: &[u32], b: &mut [u32], x: &mut [u32]) {
     print_outcome(rt, "close at the horizon", ledger::close(l, b, x));
     print_outcome(rt, "replan of a converted cell", ledger::replan(l, b, 0, 0));
-    print_left(rt, l, &b[..]);
-    print_answer(
-        rt,
-        "no such cell",
-        ledger::statement(l, &b[..], 1),
-        |figures| u64::from(figures.remaining),
-    );
+    print_left(rt, "left", l, &b[..], 0);
+    print_left(rt, "no such cell", l, &b[..], 1);
 }
 
 // A withdrawal, and what is refused after it.
@@ -305,10 +300,11 @@ fn two_years(rt: &impl Print, name: &str, l: &[u32]) {
     print_outcome(rt, name, ledger::open(l, &mut b));
     year(rt, l, &mut b, &mut x, 0);
     year(rt, l, &mut b, &mut x, 0);
-    print_left(rt, l, &b[..]);
+    print_left(rt, "left", l, &b[..], 0);
 }
 
-// The worked listing with a site word as word 2, guard 500 and least thickness 300: two years.
+// The worked listing with a site word as word 2, guard 500 and least thickness 300: two years, and two with
+// char percentage 2 besides. Then what is refused of the site word.
 fn site(rt: &impl Print) {
     let mut l = [
         0x1001_0102u32,
@@ -320,6 +316,9 @@ fn site(rt: &impl Print) {
         0x5271_01f4,
     ];
     two_years(rt, "open with a site word", &l);
+    l[1] = 0x2114_190c;
+    two_years(rt, "open with a site word and char percentage 2", &l);
+    l[1] = 0x2014_190c;
     l[2] = 0x707d_07d1;
     print_check(rt, "least thickness 2,001", &l);
     l[2] = 0x71f4_412c;
