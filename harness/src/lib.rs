@@ -32,6 +32,15 @@ pub struct Account {
     pub withdrawn: bool,
 }
 
+/// What a forecast answers: the kg to date of all cells after the last year; 0 where it is refused.
+#[repr(C)]
+#[derive(Clone, Copy, Debug, Default, PartialEq, Eq)]
+pub struct Total {
+    pub number: u32,
+    pub place: usize,
+    pub total: u64,
+}
+
 /// What the test of logged blocks answers; where it is refused, `average` is 0 and `holds` false.
 #[repr(C)]
 #[derive(Clone, Copy, Debug, Default, PartialEq, Eq)]
@@ -64,7 +73,7 @@ pub struct Ledger {
     pub withdraw: fn(&[u32], &mut [u32], usize) -> Answer,
     pub issue: fn(&[u32], &mut [u32]) -> Answer,
     pub statement: fn(&[u32], &[u32], usize) -> Account,
-    pub forecast: fn(&[u32], &mut [u32], &mut [u64]) -> Answer,
+    pub forecast: fn(&[u32], &mut [u32], &mut [u64]) -> Total,
     pub depth: fn(Reading) -> Answer,
     pub discount: Discount,
     pub logged: Logged,

@@ -1,8 +1,8 @@
 //! Safe wrappers over the proved library: no call asks anything of its caller but valid slices.
-use crate::{Account, Answer, LoggedAnswer, Reading};
+use crate::{Account, Answer, LoggedAnswer, Reading, Total};
 
 pub mod sys {
-    use crate::{Account, Answer, LoggedAnswer};
+    use crate::{Account, Answer, LoggedAnswer, Total};
 
     // As in include/peat.h: a slice is a pointer and then its length.
     unsafe extern "C" {
@@ -55,7 +55,7 @@ pub mod sys {
             book_len: usize,
             output: *mut u64,
             output_len: usize,
-        ) -> Answer;
+        ) -> Total;
         pub safe fn peat_core(metres: f32) -> Answer;
         pub safe fn peat_levels(surface: f32, base: f32) -> Answer;
         pub safe fn peat_missing() -> Answer;
@@ -160,7 +160,7 @@ pub fn statement(listing: &[u32], book: &[u32], cell: usize) -> Account {
     }
 }
 
-pub fn forecast(listing: &[u32], book: &mut [u32], output: &mut [u64]) -> Answer {
+pub fn forecast(listing: &[u32], book: &mut [u32], output: &mut [u64]) -> Total {
     // SAFETY: as in `open`, with a third slice.
     unsafe {
         sys::peat_forecast(

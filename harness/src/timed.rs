@@ -1,6 +1,6 @@
 //! The calls that the benchmark times, of either side: both go through the same indirect C call.
 use crate::proved::sys;
-use crate::{baseline, Answer};
+use crate::{baseline, Answer, Total};
 
 /// As in include/peat.h: a slice is a pointer and then its length.
 pub struct Calls {
@@ -25,7 +25,7 @@ pub struct Calls {
         book_len: usize,
         output: *mut u64,
         output_len: usize,
-    ) -> Answer,
+    ) -> Total,
     pub core: extern "C" fn(metres: f32) -> Answer,
     pub levels: extern "C" fn(surface: f32, base: f32) -> Answer,
     pub discount: unsafe extern "C" fn(
@@ -88,7 +88,7 @@ impl Calls {
     }
 
     #[inline]
-    pub fn forecast(&self, listing: &[u32], book: &mut [u32], output: &mut [u64]) -> Answer {
+    pub fn forecast(&self, listing: &[u32], book: &mut [u32], output: &mut [u64]) -> Total {
         // SAFETY: as in `close`.
         unsafe {
             (self.forecast)(

@@ -15,7 +15,7 @@ use Rattle.book.specs.Check as check
 use Rattle.closing.specs.Closing.{lines_checked, year_checked, close_answer}
 use Rattle.ledger.specs.Calls.{open_effect, close_effect, cell_checked, admitted_cell, mark_checked, admitted_unwithdrawn, plan_checked, replan_answer, replan_effect}
 use Rattle.ledger.specs.Calls.{withdraw_effect, issue_answer, issue_effect, statement_answer}
-use Rattle.forecast.specs.Forecast.{output_checked, forecast_answer, forecast_effect}
+use Rattle.forecast.specs.Forecast.{output_checked, forecast_checked, forecast_answer, forecast_effect}
 use Rattle.reading.specs.Depth.{core, levels, depth}
 use Rattle.reading.specs.declared.Reading.{Reading}
 use Rattle.reading.specs.declared.Reading.TheVariants.{Core, Levels, Missing}
@@ -74,7 +74,7 @@ depth_numbered Missing = record { exactly = refl }
 
 pub every_number : EveryNumber
 unfolding open_effect close_effect close_answer lines_checked year_checked replan_effect replan_answer plan_checked withdraw_effect issue_effect issue_answer statement_answer
-    forecast_effect forecast_answer output_checked discount logged tables_checked
+    forecast_effect forecast_answer forecast_checked output_checked discount logged tables_checked
 every_number =
     record {
       of_open = fitted_numbered;
@@ -85,7 +85,7 @@ every_number =
       of_withdraw = unwithdrawn_numbered;
       of_issue = λ l b. then _ _ (admitted_numbered l b) (none _);
       of_statement = admitted_cell_numbered;
-      of_forecast = λ l b x. then _ _ (fitted_numbered l b) (needed _ 15 _ _ (omega arith) (none _));
+      of_forecast = λ l b x. then _ _ (then _ _ (fitted_numbered l b) (needed _ 15 _ _ (omega arith) (none _))) (none _);
       of_depth = depth_numbered;
       of_discount = λ a b c d. needed _ 19 _ _ (omega arith) (needed _ 20 _ _ (omega arith) (needed _ 20 _ _ (omega arith) (needed _ 20 _ _ (omega arith) (needed _ 20 _ _ (omega arith) (none _)))));
       of_logged = λ T n a b c. needed _ 21 _ _ (omega arith) (needed _ 22 _ _ (omega arith) (needed _ 22 _ _ (omega arith) (needed _ 22 _ _ (omega arith) (none _))));

@@ -9,6 +9,7 @@ use Rattle.discount.specs.Discount.{discount}
 use Rattle.logging.specs.Logging.{TestAnswer, logged}
 use Rattle.capi.specs.declared.Answer as c
 use Rattle.capi.specs.declared.Account.{Account}
+use Rattle.capi.specs.declared.Total.{Total}
 use Rattle.capi.specs.declared.LoggedAnswer.{LoggedAnswer}
 
 -- number, place and value of an answer
@@ -29,6 +30,10 @@ exported_account t =
       plan_year = t.figures.plan_year;
       withdrawn = t.figures.withdrawn;
     }
+
+-- number and place of a forecast's answer, and its value as a total
+abbrev pub exported_total : Answer → Total
+exported_total a = record { number = a.number; place = a.place; total = a.value }
 
 -- number and place of a test of logged blocks, and its figures
 abbrev pub exported_logged : TestAnswer → LoggedAnswer

@@ -10,7 +10,7 @@ ghost use Rattle.reading.specs.Depth.{depth};
 ghost use Rattle.reading.specs.declared.Reading.TheVariants.{Core, Levels, Missing};
 ghost use Rattle.discount.specs.Discount.{discount};
 ghost use Rattle.logging.specs.Logging.{tested, logged};
-ghost use Rattle.capi.specs.Exported.{exported, exported_account, exported_logged};
+ghost use Rattle.capi.specs.Exported.{exported, exported_account, exported_total, exported_logged};
 
 use ledger::CellFigures;
 use logging::LoggedFigures;
@@ -39,6 +39,16 @@ pub struct Account {
     pub kg: u32,
     pub plan_year: u32,
     pub withdrawn: bool,
+}
+
+// The answer of a forecast: number and place as above, and the kg to date of all cells after the last year,
+// which may pass 32 bits.
+#[repr(C)]
+#[derive(Clone, Copy, Debug, PartialEq, Eq)]
+pub struct Total {
+    pub number: u32,
+    pub place: usize,
+    pub total: u64,
 }
 
 // The answer of the test of logged blocks: number and place as above, the average in tenths of t C per ha,
@@ -106,6 +116,25 @@ impl From<Result<CellFigures, Refusal>> for Account {
                 kg: 0,
                 plan_year: 0,
                 withdrawn: false,
+            },
+        }
+    }
+}
+
+impl From<Result<u64, Refusal>> for Total {
+    ghost from_gives = { λ answer a. a ≡ exported_total (amount answer) };
+
+    fn from(answer: Result<u64, Refusal>) -> Total {
+        match answer {
+            Ok(total) => Total {
+                number: 0,
+                place: 0,
+                total,
+            },
+            Err(why) => Total {
+                number: why.reason.number(),
+                place: why.place,
+                total: 0,
             },
         }
     }
@@ -182,12 +211,12 @@ pub extern "C" fn peat_statement(listing: &[u32], book: &[u32], cell: usize) -> 
 }
 
 #[unsafe(no_mangle)]
-pub extern "C" fn peat_forecast(listing: &[u32], book: &mut [u32], output: &mut [u64]) -> Answer
-    ensures value { result ≡ exported (forecast_effect listing.now book.old output.old).answer }
+pub extern "C" fn peat_forecast(listing: &[u32], book: &mut [u32], output: &mut [u64]) -> Total
+    ensures value { result ≡ exported_total (forecast_effect listing.now book.old output.old).answer }
     ensures new_book { book.new ≡ (forecast_effect listing.now book.old output.old).book }
     ensures new_output { output.new ≡ (forecast_effect listing.now book.old output.old).output }
 {
-    Answer::from(forecast::forecast(listing, book, output))
+    Total::from(forecast::forecast(listing, book, output))
 }
 
 // The depth of a core; the value is its mm, as for the two calls below.

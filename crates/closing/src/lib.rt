@@ -5,7 +5,7 @@ ghost use Rattle.std.specs.Prelude.{◌≡◌, false, ◌<◌, ◌≤◌, length
 ghost use Rattle.words.specs.Blocks.{filled};
 ghost use Rattle.words.specs.Answers.{outcome};
 ghost use Rattle.listing.specs.Layout.{head, cells, row, cell};
-ghost use Rattle.year.specs.Year.{inactive, kg_of, year_loss, after_loss};
+ghost use Rattle.year.specs.Year.{inactive, age, kg_of, year_loss, after_loss};
 ghost use Rattle.book.specs.Current.{current};
 ghost use Rattle.book.specs.Layout.{line_words, entry_of, held_words, lines_of};
 ghost use Rattle.book.specs.AcceptedBook.{CellWordsValid};
@@ -13,33 +13,28 @@ ghost use Rattle.closing.specs.Closing.{cell_loss, closed_words, book_after, lin
 ghost use Rattle.closing.specs.Closable.{CellYear, NextYear, Closable};
 
 use book::{BOOK, LINE_WORDS, OpenBook};
-use fields::Cell;
+use fields::{Cell, Row};
 use listing::Listing;
 use words::{Kind, Reason, Refusal, need};
 use year::{Entry, Loss};
 
-// What an active cell loses in `year`, by its own entry and the row of its own stratum and
-// age. `before` is its kg to date.
+// The row of an active cell in `year`: that of its own stratum and age.
+pub fn active_row(listing: &Listing<'_>, c: Cell, e: Entry, year: u32) -> Row
+    requires { CellYear listing.now.words.now c e year × (inactive (head listing.now.words.now) c e year ≡ false) }
+    ensures { result ≡ row listing.now.words.now c.stratum (age e.plan year) }
+{
+    let age = year - e.plan + 1;
+    listing.row(c.stratum, age)
+}
+
+// What an active cell loses in `year`, by its own entry. `before` is its kg to date.
 fn active_loss(listing: &Listing<'_>, c: Cell, e: Entry, before: u32, year: u32) -> Loss
     requires { CellYear listing.now.words.now c e year × (inactive (head listing.now.words.now) c e year ≡ false)
         × (before ≡ kg_of (head listing.now.words.now) c e) }
     ensures { result ≡ year_loss (head listing.now.words.now) (row listing.now.words.now) c e year }
 {
-    let age = year - e.plan + 1;
-    let r = listing.row(c.stratum, age);
+    let r = active_row(listing, c, e, year);
     year::loss_of(listing.figures, c, r, e, before)
-}
-
-// What a cell loses in `year`, nothing where it is inactive. `before` is its kg to date. Entry and kg are
-// parameters of their own, since a caller that runs through the years keeps each from one to the next.
-pub fn cell_loss(listing: &Listing<'_>, c: Cell, e: Entry, before: u32, year: u32) -> Loss
-    requires { CellYear listing.now.words.now c e year × (before ≡ kg_of (head listing.now.words.now) c e) }
-    ensures { result ≡ year_loss (head listing.now.words.now) (row listing.now.words.now) c e year }
-{
-    if year::inactive(listing.figures, c, e, year) {
-        return year::no_loss();
-    }
-    active_loss(listing, c, e, before, year)
 }
 
 // Number 9, for a valid book. Number 14 comes after it, and is proved not to arise: no kg line is

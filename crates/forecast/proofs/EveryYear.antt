@@ -24,9 +24,20 @@ use Rattle.years.specs.Years.{after_closings}
 use Rattle.years.proofs.Held.{every_years}
 use Rattle.ledger.specs.Calls.{open_effect, close_effect}
 use Rattle.ledger.proofs.After.{closed_line}
-use Rattle.forecast.specs.Forecast.{year_kg, closed_book, output_after, output_checked, forecast_answer, forecast_effect}
+use Rattle.forecast.specs.Forecast.{year_kg, closed_book, output_after, output_checked, forecast_checked, forecast_answer, forecast_effect}
 use Rattle.forecast.specs.Running.{Ready}
 use Rattle.forecast.specs.Closings.{Closes, EveryYear}
+
+-- ---- an accepted forecast passed its tests
+
+module _ (l b : List ℕ) (capacity : ℕ) where
+  checked_passed : (forecast_checked l b capacity).done ≡ true → ((fitted l b).done ≡ true) × ((output_checked l capacity).done ≡ true)
+  unfolding forecast_checked
+  checked_passed h = after_accepted _ _ h
+
+  pub tests_passed : (forecast_answer l b capacity).done ≡ true → ((fitted l b).done ≡ true) × ((output_checked l capacity).done ≡ true)
+  unfolding forecast_answer
+  tests_passed h = checked_passed (after_accepted _ _ h).0
 
 -- ---- the years of an opened book
 
@@ -74,9 +85,9 @@ module _ (l b x : List ℕ) (h : (forecast_effect l b x).answer.done ≡ true) w
   forecast_output = written_new (forecast_answer l b (length x)) x (output_after l (open_book l b) x) h
 
 pub every_year : EveryYear
-unfolding forecast_effect forecast_answer open_effect
+unfolding forecast_effect open_effect
 every_year l b x h =
-    let fits = (after_accepted _ _ h).0 in
+    let fits = (tests_passed l b (length x) h).0 in
     let same = opened_book l b fits in
     record {
       opens = fits;
@@ -94,10 +105,9 @@ output_beyond l b x k le =
 
 -- ---- a forecast whose tests were passed: what its years are given
 
-module _ (l b : List ℕ) (capacity : ℕ) (x : ℕ) (e : accepted x ≡ forecast_answer l b capacity) where
+module _ (l b : List ℕ) (capacity : ℕ) (x : ℕ) (e : accepted x ≡ forecast_checked l b capacity) where
   passed : ((fitted l b).done ≡ true) × ((output_checked l capacity).done ≡ true)
-  unfolding forecast_answer
-  passed = after_accepted _ _ (ap (λ (a : Answer). a.done) (sym e))
+  passed = checked_passed l b capacity (ap (λ (a : Answer). a.done) (sym e))
 
   pub forecast_fits : (fitted l b).done ≡ true
   forecast_fits = passed.0

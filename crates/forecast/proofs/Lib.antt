@@ -1,5 +1,5 @@
--- Laws of the forecast: that every year closes, that the closings come to each cell's own years, and its loops.
-pub mod EveryYear
+-- Laws of the forecast: its running total, its loops, that every year closes, what its numbers add up to, and what stays untouched.
 pub mod Running
 pub mod Loop
+pub mod EveryYear
 pub mod Untouched

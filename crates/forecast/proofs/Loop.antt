@@ -1,223 +1,226 @@
 -- The forecast's loops: what an iteration is given and leaves. Assumes nothing.
-use mathlib.Core.Path.{◌≡◌, refl, sym, ap, ◌∙◌}
-use mathlib.Core.List.{List, [], ◌∷◌, ◌++◌}
-use Prim.Native.Nat.{ℕ, zero, suc, zero-le, ◌+◌, ◌-◌, ◌*◌, ◌^◌, ◌≤◌, ◌<◌}
-use native.Mathlib.Nat.{add-zero, le_antisymm}
-use native.Mathlib.Numerals.{add-one}
+use mathlib.Core.Path.{◌≡◌, refl, sym, ap, ap₂, ◌∙◌}
+use mathlib.Core.Bool.{Bool, true, false}
+use mathlib.Core.List.{List, [], ◌∷◌}
+use Prim.Native.Nat.{ℕ, ◌+◌, ◌-◌, ◌*◌, ◌^◌, ◌≤◌, ◌<◌}
+use native.Mathlib.Nat.{le_antisymm}
 use native.Mathlib.Omega.{arith}
-use lib.Dec.{eqb}
-use lib.ListN.{length, get_or, set, take, drop, replicate}
-use lib.Seq.{length-take-le}
+use lib.ListN.{length, get_or, set, take, drop, replicate, length-set, length-replicate}
 use borrow.Rule.Slice.PartMut.{put_mid}
-use Rattle.std.proofs.lemmas.List.{replicate_more}
-use Rattle.words.specs.Blocks.{blocks, filled}
+use Rattle.std.proofs.lemmas.List.{get_or-set_same, get_or-set_other, get_or-replicate}
 use Rattle.words.specs.Sums.{sum_below}
-use Rattle.words.proofs.Blocks.{Filling, filling_none, filling_lent_length, filling_next, filling_stored, filling_all, filled_behind, filled_word, length_filled}
-use Rattle.words.proofs.Blocks.{filled_same, filled_again, filled_own}
-use Rattle.words.proofs.Signed.{by_test}
-use Rattle.words.proofs.Sums.{sum_none, sum_next, sum_most}
-use Rattle.fields.specs.declared.Cell.{Cell}
+use Rattle.words.proofs.Blocks.{Filling, filling_none, filling_lent_length, filling_next, filling_stored, filling_all}
+use Rattle.words.proofs.Signed.{by_equal}
+use Rattle.words.proofs.Sums.{sum_none, sum_next}
+use Rattle.fields.specs.Words.{most_cells}
 use Rattle.listing.specs.Layout.{head, cells, horizon, row, cell}
 use Rattle.listing.specs.Accepted.{Accepted}
-use Rattle.listing.specs.declared.Listing.{Listing}
-use Rattle.listing.proofs.Accepted.{listing_horizon}
-use Rattle.year.specs.Year.{kg_of, year_loss, most_line, opened, after_loss}
-use Rattle.year.specs.declared.Entry.{Entry}
+use Rattle.fields.specs.Valid.{RowValid}
+use Rattle.fields.specs.declared.Row.{Row}
+use Rattle.fields.specs.declared.Cell.{Cell}
+use Rattle.year.specs.Year.{inactive, age, mm_of, emission, loss_of, year_loss, after_loss}
+use Rattle.year.specs.Limits.{WithinLimits}
+use Rattle.year.specs.declared.LostMm.{LostMm}
 use Rattle.year.specs.declared.Loss.{Loss}
-use Rattle.year.proofs.Laws.{emission_most, emission_none, year_kg_lem, year_kg_most}
-use Rattle.book.specs.Current.{current, entry_at, held_at}
+use Rattle.year.specs.declared.Entry.{Entry}
+use Rattle.year.proofs.Laws.{after_loss_none, emission_none, loss_inactive, loss_active}
+use Rattle.book.specs.Current.{current, entry_at, held_at, Fitted}
 use Rattle.book.specs.Layout.{Sized, held_words}
 use Rattle.book.specs.AcceptedBook.{Storable}
-use Rattle.book.proofs.AcceptedBook.{shaped, entry_fit}
-use Rattle.book.proofs.Held.{held_at_sized}
+use Rattle.book.proofs.AcceptedBook.{shaped}
 use Rattle.closing.specs.Closable.{CellYear}
-use Rattle.closing.proofs.Closable.{cell_year_storable}
+use Rattle.closing.proofs.Closable.{cell_year_valid, cell_year_fit}
 use Rattle.years.specs.Years.{entries_after, loss_in}
-use Rattle.years.proofs.After.{after_next, after_valid, after_storable}
-use Rattle.forecast.specs.Running.{years_before_conversion, ran_cells, added_years, ran_output, Running, Ready}
-use Rattle.forecast.proofs.Running.{inactive_no_loss, inactive_opened}
+use Rattle.years.proofs.After.{after_plan, after_next, after_valid, after_storable}
+use Rattle.forecast.specs.declared.CellToDate.{CellToDate}
+use Rattle.forecast.specs.Running.{entry_of, to_date, cell_after, total_after, output_of, CellsAfter}
+use Rattle.forecast.proofs.Running.{total_none, total_next, total_grows, total_fits}
 
--- ---- kg, by the limits of an accepted listing
+-- ---- a list that a loop goes through, element after element: the first i of n are g's, and the others f's still
+pub record Stepped {A : Type 0} (f g : ℕ → A) (n i : ℕ) (xs : List A) : Type 0 where
+  pub enough : n ≤ length xs
+  pub at_most : i ≤ n
+  pub done : (k : ℕ) (d : A) → k < i → get_or xs k d ≡ g k
+  pub left : (k : ℕ) (d : A) → i ≤ k → k < n → get_or xs k d ≡ f k
+
+module _ {A : Type 0} {f g : ℕ → A} {n i : ℕ} {xs : List A} (s : Stepped f g n i xs) where
+  -- a step: element i
+  pub stepped_next : i < n → {y : A} → y ≡ g i → Stepped f g n (i + 1) (set xs i y)
+  stepped_next lt {y} e =
+      let enough = s.enough in
+      record {
+        enough = rw (length-set xs i y) enough;
+        at_most = omega arith;
+        done =
+            λ k d before.
+            by_equal k i
+            (λ here. rw here (get_or-set_same xs i y d (omega arith) ∙ e))
+            (λ other. get_or-set_other xs i k y d other ∙ s.done k d (omega arith));
+        left = λ k d from lt. get_or-set_other xs i k y d (λ here. omega arith) ∙ s.left k d (omega arith) lt;
+      }
+
+-- ---- the cells, a year in each iteration of the outer loop, and a cell in each of the inner
+
+-- i cells are opened: the list began with the first of them everywhere
+abbrev pub OpenedSoFar : List ℕ → ℕ → List CellToDate → Type 0
+OpenedSoFar l i xs = Stepped (λ k. cell_after l 0 0) (cell_after l 0) (cells l) i xs
 
 module _ {l : List ℕ} (a : Accepted l) where
-  kg_most : (i t : ℕ) → i < cells l → (loss_in l i t).kg ≤ most_line
-  kg_most i t lt = year_kg_most (head l) (row l) (cell l i) (entries_after l t i) (t + 1) a.head_valid (a.cell_valid i lt) a.row_valid
+  pub opened_first : {first : CellToDate} → first ≡ cell_after l 0 0 → OpenedSoFar l 1 (replicate most_cells first)
+  opened_first e =
+      let count = a.head_valid.cells in
+      rw e
+      (record {
+        enough = rw (length-replicate most_cells (cell_after l 0 0)) count.1;
+        at_most = count.0;
+        done = λ k d lt. let first : k ≡ 0 = omega arith in rw first (get_or-replicate most_cells 0 (cell_after l 0 0) d (omega arith));
+        left = λ k d from lt. get_or-replicate most_cells k (cell_after l 0 0) d (omega (arith, lt, count));
+      })
 
-  year_sum_most : (t n : ℕ) → n ≤ cells l → sum_below (λ i. (loss_in l i t).kg) n ≤ most_line * n
-  year_sum_most t n le = sum_most (λ i. (loss_in l i t).kg) most_line n (λ i lt. kg_most i t (omega arith))
+module _ {l : List ℕ} where
+  -- the cells of year t, before the first step to year t + 1, and after the last
+  pub year_begins : {t : ℕ} {xs : List CellToDate} → CellsAfter l t xs → Stepped (cell_after l t) (cell_after l (t + 1)) (cells l) 0 xs
+  year_begins c = record { enough = c.enough; at_most = omega arith; done = λ k d lt. absurd (omega arith); left = λ k d from lt. c.each k d lt }
 
--- ---- a cell's years, one in each iteration
+  pub cells_all : {f : ℕ → CellToDate} {t i : ℕ} {xs : List CellToDate} → Stepped f (cell_after l t) (cells l) i xs → cells l ≤ i → CellsAfter l t xs
+  cells_all s le = record { enough = s.enough; each = λ k d lt. s.done k d (omega arith) }
 
--- t years of cell i are run: d is the output at the start, e, k and x are its entry, its kg to date and the output as they are now
-pub record Ran (l : List ℕ) (i : ℕ) (d : List ℕ) (t : ℕ) (e : Entry) (k : ℕ) (x : List ℕ) : Type 0 where
-  pub entry_is : e ≡ entries_after l t i
-  pub kg_is : k ≡ kg_of (head l) (cell l i) (entries_after l t i)
-  pub output : Filling 1 d 0 (λ t. (get_or d t 0 + (loss_in l i t).kg) ∷ []) (horizon l) t x
+-- ---- one cell: it was opened, or a year is added
 
-years_before_most : (plan horizon : ℕ) → plan ≤ horizon → years_before_conversion plan horizon ≤ horizon
-unfolding years_before_conversion
-years_before_most plan horizon le = by_test (λ (n : ℕ). n ≤ horizon) (eqb plan 0) horizon (plan - 1) (λ e. omega arith) (λ e. omega arith)
+pub opened_is : (l : List ℕ) (i : ℕ) {c : Cell} → c ≡ cell l i → record { cell = c; lost = record { oxidised = 0; burned = 0 }; kg = 0 } ≡ cell_after l 0 i
+unfolding entries_after
+opened_is l i c_is =
+    rw c_is (ap (λ (k : ℕ). record { cell = cell l i; lost = record { oxidised = 0; burned = 0 }; kg = k }) (sym (emission_none (head l) (cell l i))))
 
--- v is the listing, and c the cell that was read
-module _ (v : Listing) where
-  abbrev words : List ℕ
-  words = v.words.now
+-- its entry is that of the cell's own years
+pub entry_after : (l : List ℕ) (t i : ℕ) → entry_of (cell_after l t i) ≡ entries_after l t i
+entry_after l t i =
+    let own = after_plan l i t in
+    ap₂ (λ (w : Bool) (p : ℕ). record { withdrawn = w; plan = p; oxidised = (entries_after l t i).oxidised; burned = (entries_after l t i).burned }) (sym own.0) (sym own.1)
 
-  a : Accepted words
-  a = v.accepted
+-- b is a cell before the year t: inactive, it stays as it was
+module _ (l : List ℕ) (b : CellToDate) (t : ℕ) where
+  abbrev loss : Loss
+  loss = year_loss (head l) (row l) b.cell (entry_of b) t
 
-  module _ {i : ℕ} {d : List ℕ} (g : Running words i d) {c : Cell} (c_is : c ≡ cell words i) where
-    -- the first t years: the cell is inactive in them
-    pub ran_unconverted : {t : ℕ} {e : Entry} → e ≡ opened c.conversion → t ≡ years_before_conversion c.conversion v.figures.horizon → Ran words i d t e 0 d
-    unfolding entries_after
-    ran_unconverted {t} e_is t-is =
-        let t_is_before : t ≡ years_before_conversion (cell words i).conversion (horizon words) = rw (listing_horizon v, c_is) at t-is in
-        let within = years_before_most (cell words i).conversion (horizon words) (a.cell_valid i g.in_listing).conversion in
-        let still = inactive_opened words i t (omega arith) in
-        let enough = g.enough in
-        record {
-          entry_is = e_is ∙ (rw c_is still);
-          kg_is = rw (← still) (sym (emission_none (head words) (cell words i)));
-          output =
-              record {
-                sized = λ u. refl;
-                capacity = omega arith;
-                at_most = omega arith;
-                length_is = refl;
-                is = filled_own d _ (λ u. refl) t (omega arith) (λ u lt. rw (inactive_no_loss words i u (omega arith), add-zero));
-              };
-        }
+  pub inactive_is : b ≡ to_date (head l) b.cell (entry_of b) → inactive (head l) b.cell (entry_of b) t ≡ true → b ≡ to_date (head l) b.cell (after_loss (entry_of b) loss)
+  inactive_is b_is q =
+      b_is
+      ∙ ap (to_date (head l) b.cell)
+      (sym (ap (after_loss (entry_of b)) (loss_inactive (head l) (row l) b.cell (entry_of b) t q) ∙ after_loss_none (entry_of b)))
 
-    -- the iteration of year t + 1
-    module _ {t : ℕ} {e : Entry} {k : ℕ} {x : List ℕ} (r : Ran words i d t e k x) (before : t < v.figures.horizon) where
-      lt : t < horizon words
-      lt = omega (arith, listing_horizon v, before)
+  -- active: r is the row that was read, and m the mm that were answered
+  module _ (a : Accepted l) (g : CellYear l b.cell (entry_of b) t) (q : inactive (head l) b.cell (entry_of b) t ≡ false) {r : Row}
+      (r_is : r ≡ row l b.cell.stratum (age b.cell.conversion t)) where
+    pub active_fit : WithinLimits (head l) b.cell (entry_of b).oxidised (entry_of b).burned × RowValid r
+    active_fit = (cell_year_fit a g, rw r_is (a.row_valid b.cell.stratum (age b.cell.conversion t)))
 
-      pub iteration_kg : k ≡ kg_of (head words) c e
-      iteration_kg = rw (c_is, r.entry_is) r.kg_is
+    module _ {m : LostMm} (m_is : m ≡ mm_of (head l) b.cell r (entry_of b)) where
+      then_is : record { withdrawn = false; plan = b.cell.conversion; oxidised = b.lost.oxidised + m.oxidised; burned = b.lost.burned + m.burned }
+          ≡ after_loss (entry_of b) loss
+      unfolding loss_of
+      then_is =
+          rw (m_is, r_is) (ap (after_loss (entry_of b)) (sym (loss_active (head l) (row l) b.cell (entry_of b) t q)))
 
-      pub iteration_cell_year : CellYear words c e (t + 1)
-      iteration_cell_year =
-          rw (c_is, r.entry_is)
-          (record { cell_valid = a.cell_valid i g.in_listing; entry_valid = after_valid a i g.in_listing t; in_time = (omega arith, omega (arith, lt)) })
+      pub then_fit : WithinLimits (head l) b.cell (b.lost.oxidised + m.oxidised) (b.lost.burned + m.burned)
+      then_fit =
+          let total : (b.lost.oxidised + m.oxidised) + (b.lost.burned + m.burned) ≤ b.cell.entered =
+          omega (arith, ap (λ (e : Entry). e.oxidised + e.burned) then_is, (cell_year_valid a g).lost) in
+          record { head_valid = a.head_valid; cell_valid = g.cell_valid; lost = total }
 
-      -- s is the loss that was answered
-      module _ {s : Loss} (s_is : s ≡ year_loss (head words) (row words) c e (t + 1)) where
-        answered : s ≡ loss_in words i t
-        answered = rw (c_is, r.entry_is) at s_is
+      pub active_is : {kg : ℕ} → kg ≡ emission (head l) b.cell (b.lost.oxidised + m.oxidised) (b.lost.burned + m.burned) →
+          record { cell = b.cell; lost = record { oxidised = b.lost.oxidised + m.oxidised; burned = b.lost.burned + m.burned }; kg = kg }
+          ≡ to_date (head l) b.cell (after_loss (entry_of b) loss)
+      active_is kg_is = rw kg_is (ap (to_date (head l) b.cell) then_is)
 
-        pub iteration_storable : Storable (after_loss e s)
-        iteration_storable = rw s_is (cell_year_storable a iteration_cell_year)
+-- ---- a year: i cells are worked out, and `total` is what they come to
 
-        after_loss_is : after_loss e s ≡ entries_after words (t + 1) i
-        after_loss_is = rw (answered, r.entry_is) (after_next words i t)
+pub record YearSoFar (l : List ℕ) (t i total : ℕ) (xs : List CellToDate) : Type 0 where
+  pub stepped : Stepped (cell_after l t) (cell_after l (t + 1)) (cells l) i xs
+  pub total_is : total ≡ sum_below (λ k. (cell_after l (t + 1) k).kg) i
 
-        -- the kg to date with the year's
-        then_is : k + s.kg ≡ kg_of (head words) (cell words i) (entries_after words (t + 1) i)
-        then_is = rw (answered, r.kg_is) (year_kg_lem (head words) (row words) (cell words i) (entries_after words t i) (t + 1)) ∙ ap (kg_of (head words) (cell words i)) (after_next words i t)
+module _ {l : List ℕ} (a : Accepted l) {t : ℕ} (in_time : t < horizon l) where
+  pub year_none : {xs : List CellToDate} → CellsAfter l t xs → YearSoFar l t 0 0 xs
+  year_none c = record { stepped = year_begins c; total_is = sum_none (λ k. (cell_after l (t + 1) k).kg) }
 
-        pub iteration_kg_fits : k + s.kg < 2 ^ 32
-        iteration_kg_fits = omega (arith, then_is, emission_most (entry_fit words i (entries_after words (t + 1) i) a g.in_listing (after_valid a i g.in_listing (t + 1))))
+  -- the iteration of cell i: b is what was read, and c what was answered
+  module _ {i total : ℕ} {xs : List CellToDate} (r : YearSoFar l t i total xs) (lt : i < cells l) where
+    pub iteration_within : i < length xs
+    iteration_within = omega (arith, lt, r.stepped.enough)
 
-        -- the year's number, untouched so far
-        untouched : get_or x t 0 ≡ get_or d t 0
-        untouched = rw r.output.is (filled_behind 1 d 0 (λ t. (get_or d t 0 + (loss_in words i t).kg) ∷ []) (λ i. refl) zero-le t t (omega arith))
+    module _ {b : CellToDate} (b_is : b ≡ cell_after l t i) where
+      pub iteration_cell : CellYear l b.cell (entry_of b) (t + 1) × (b ≡ to_date (head l) b.cell (entry_of b))
+      iteration_cell =
+          rw (b_is, entry_after l t i) (record { cell_valid = a.cell_valid i lt; entry_valid = after_valid a i lt t; in_time = (omega arith, omega (arith, in_time)) }, refl)
 
-        pub iteration_fits : get_or x t 0 + s.kg < 2 ^ 64
-        iteration_fits = rw (untouched, answered) (omega (arith, g.small t lt, kg_most a i t g.in_listing))
+      module _ {c : CellToDate} (c_is : c ≡ to_date (head l) b.cell (after_loss (entry_of b) (year_loss (head l) (row l) b.cell (entry_of b) (t + 1)))) where
+        answered : c ≡ cell_after l (t + 1) i
+        answered = (rw (b_is, entry_after l t i) at c_is) ∙ ap (to_date (head l) (cell l i)) (after_next l i t)
 
-        pub ran_next : {e' : Entry} → e' ≡ after_loss e s → Ran words i d (t + 1) e' (k + s.kg) (set x t (get_or x t 0 + s.kg))
-        ran_next e_is = record { entry_is = e_is ∙ after_loss_is; kg_is = then_is; output = filling_stored r.output lt t (omega arith) (get_or x t 0 + s.kg) (rw (untouched, answered)) }
+        total_then : total + c.kg ≡ sum_below (λ k. (cell_after l (t + 1) k).kg) (i + 1)
+        total_then = sum_next (λ k. (cell_after l (t + 1) k).kg) i r.total_is (ap (λ (x : CellToDate). x.kg) answered)
 
-pub ran_all : {l : List ℕ} {i : ℕ} {d : List ℕ} {t : ℕ} {e : Entry} {k : ℕ} {x : List ℕ} → Ran l i d t e k x → horizon l ≤ t → (e ≡ entries_after l (horizon l) i) × (x ≡ added_years l i d)
-unfolding added_years
-ran_all r le = (rw (le_antisymm r.output.at_most le) at r.entry_is, filling_all r.output le)
+        pub iteration_fits : total + c.kg < 2 ^ 64
+        iteration_fits = omega (arith, total_then, total_fits a (t + 1) (i + 1) (omega arith))
 
--- ---- all cells, one in each iteration
+        pub year_step : YearSoFar l t (i + 1) (total + c.kg) (set xs i c)
+        year_step = record { stepped = stepped_next r.stepped lt answered; total_is = total_then }
 
--- the numbers of an output after n cells
-number_is : (l d : List ℕ) (n t : ℕ) → t < horizon l → get_or (ran_output l d n) t 0 ≡ sum_below (λ i. (loss_in l i t).kg) n
-unfolding ran_output
-number_is l d n t lt =
-    let e : 0 + 1 * t + 0 ≡ t = omega arith in
-    rw e at (filled_word 1 d 0 (λ t. sum_below (λ i. (loss_in l i t).kg) n ∷ []) (λ t. refl) zero-le (horizon l) t 0 lt (omega arith))
+pub year_all : {l : List ℕ} {t i total : ℕ} {xs : List CellToDate} → YearSoFar l t i total xs → cells l ≤ i → (total ≡ total_after l (t + 1)) × CellsAfter l (t + 1) xs
+unfolding total_after
+year_all r le = let all = le_antisymm r.stepped.at_most le in (rw all at r.total_is, cells_all r.stepped le)
 
-output_sized : (l d : List ℕ) (n : ℕ) → horizon l ≤ length d → length (ran_output l d n) ≡ length d
-unfolding ran_output
-output_sized l d n enough = length_filled 1 d 0 _ (λ t. refl) zero-le (horizon l) (omega arith)
+-- ---- all years: t are closed, and `total` is the running total; d is the output at the start, and x as it is now
 
--- an output that is written once more
-pub output_again : (l d : List ℕ) (m n : ℕ) → ran_output l (ran_output l d m) n ≡ ran_output l d n
-unfolding ran_output
-output_again l d m n = filled_again 1 d 0 (λ t. sum_below (λ i. (loss_in l i t).kg) m ∷ []) (λ t. refl) zero-le (horizon l) _
+pub record YearsSoFar (l d : List ℕ) (t total : ℕ) (xs : List CellToDate) (x : List ℕ) : Type 0 where
+  pub after : CellsAfter l t xs
+  pub total_is : total ≡ total_after l t
+  pub output : Filling 1 d 0 (λ t. (total_after l (t + 1) - total_after l t) ∷ []) (horizon l) t x
 
--- one cell more
-output_next : (l d : List ℕ) (n : ℕ) → added_years l n (ran_output l d n) ≡ ran_output l d (n + 1)
-unfolding added_years ran_output
-output_next l d n =
-    filled_same 1 (ran_output l d n) 0 _ (λ t. sum_below (λ i. (loss_in l i t).kg) (n + 1) ∷ []) (horizon l)
-    (λ t lt. ap (λ (m : ℕ). m ∷ []) (sum_next (λ i. (loss_in l i t).kg) n (number_is l d n t lt) refl))
-    ∙ output_again l d n (n + 1)
+module _ {l d : List ℕ} where
+  pub years_none : {xs : List CellToDate} → CellsAfter l 0 xs → horizon l ≤ length d → YearsSoFar l d 0 0 xs d
+  years_none c enough = record { after = c; total_is = total_none l; output = filling_none (λ k. refl) (omega arith) }
 
--- i cells are run: b and d are the book and the output at the start, y and x as they are now
-pub record Progress (l b d : List ℕ) (i : ℕ) (y x : List ℕ) : Type 0 where
-  pub book : Filling current.entry b current.head (held_at (entries_after l (horizon l))) (cells l) i y
-  pub output_length : length x ≡ length d
-  pub output_is : x ≡ ran_output l d i
+  -- the iteration of the year t + 1
+  module _ {t total : ℕ} {xs : List CellToDate} {x : List ℕ} (r : YearsSoFar l d t total xs x) (lt : t < horizon l) where
+    pub years_within : t < length x
+    years_within = omega (arith, lt, r.output.capacity, r.output.length_is)
 
-module _ {l b d : List ℕ} (ready : Ready l b (length d)) where
-  pub progress_none : d ≡ ran_output l d 0 → Progress l b d 0 b d
-  progress_none clear = record { book = filling_none (held_at_sized current shaped (entries_after l (horizon l))) ready.fitted.capacity; output_length = refl; output_is = clear }
+    module _ {now : ℕ} (now_is : now ≡ total_after l (t + 1)) where
+      pub years_difference : total ≤ now
+      years_difference = omega (arith, r.total_is, now_is, total_grows l t)
 
-  -- the iteration of cell i
-  module _ {i : ℕ} {y x : List ℕ} (r : Progress l b d i y x) (lt : i < cells l) where
-    pub iteration_running : Running l i x
-    iteration_running =
-        let a = ready.fitted.accepted in
-        record {
-          in_listing = lt;
-          enough = omega (arith, ready.enough, r.output_length);
-          small = λ t in_time. rw (r.output_is, number_is l d i t in_time) (omega (arith, year_sum_most a t i r.book.at_most, r.book.at_most, a.head_valid.cells));
-        }
+      pub years_next : {xs' : List CellToDate} → CellsAfter l (t + 1) xs' → YearsSoFar l d (t + 1) now xs' (set x t (now - total))
+      years_next c =
+          record {
+            after = c;
+            total_is = now_is;
+            output = filling_stored r.output lt t (omega arith) (now - total) (rw (now_is, r.total_is) refl);
+          }
 
-    -- a is where its words begin, and e the entry that was answered
-    module _ {a : ℕ} (here : a ≡ entry_at i) {e : Entry} (e_is : e ≡ entries_after l (horizon l) i) where
-      lent : length (take (a + current.entry - a) (drop a y)) ≡ current.entry
-      lent = filling_lent_length r.book lt a here
+pub years_all : {l d : List ℕ} {t total : ℕ} {xs : List CellToDate} {x : List ℕ} → YearsSoFar l d t total xs x → horizon l ≤ t →
+    (total ≡ total_after l (horizon l)) × CellsAfter l (horizon l) xs × (x ≡ output_of l d)
+unfolding output_of
+years_all r le = let all = le_antisymm r.output.at_most le in (rw all at r.total_is, rw all at r.after, filling_all r.output le)
 
-      pub iteration_entry : Sized (length (take (a + current.entry - a) (drop a y))) × Storable e
-      iteration_entry = (rw lent shaped.entry, rw e_is (after_storable ready.fitted.accepted i lt (horizon l)))
+-- ---- the book, written once
 
-      -- ws and x' are the words and the output that came back
-      pub progress_next : {ws x' : List ℕ} → ws ≡ held_words (length (take (a + current.entry - a) (drop a y))) e → x' ≡ added_years l i x →
-          Progress l b d (i + 1) (put_mid a (a + current.entry - a) y ws) x'
-      progress_next ws_is x_is =
-          let output = (rw r.output_is at x_is) ∙ output_next l d i in
-          record { book = filling_next r.book lt a here (rw (lent, e_is) at ws_is); output_length = ap length output ∙ output_sized l d (i + 1) ready.enough; output_is = output }
+module _ {l b : List ℕ} (fitted : Fitted l b) where
+  abbrev held : ℕ → List ℕ
+  held = held_at (entries_after l (horizon l))
 
-pub progress_all : {l b d : List ℕ} {i : ℕ} {y x : List ℕ} → Progress l b d i y x → cells l ≤ i → (y ≡ ran_cells l b (cells l)) × (x ≡ ran_output l d (cells l))
-unfolding ran_cells
-progress_all r le = (filling_all r.book le, rw (le_antisymm r.book.at_most le) at r.output_is)
+  -- the iteration of cell i: y is the book as it is now, a is where its words begin, and c the cell that was read
+  module _ {i : ℕ} {y : List ℕ} (r : Filling current.entry b current.head held (cells l) i y) (lt : i < cells l) {a : ℕ} (here : a ≡ entry_at i)
+      {c : CellToDate} (c_is : c ≡ cell_after l (horizon l) i) {e : Entry} (e_is : e ≡ entry_of c) where
+    held_entry : e ≡ entries_after l (horizon l) i
+    held_entry = (rw c_is at e_is) ∙ entry_after l (horizon l) i
 
--- ---- before the first cell: zeros were written over the first n numbers of d
+    lent : length (take (a + current.entry - a) (drop a y)) ≡ current.entry
+    lent = filling_lent_length r lt a here
 
-zero_blocks : (n : ℕ) → replicate n 0 ≡ blocks (λ t. 0 ∷ []) n
-zero_blocks zero = refl
-zero_blocks (suc n) = ap (λ (m : ℕ). replicate m 0) (sym (add-one n)) ∙ sym (replicate_more n 0) ∙ ap (λ (x : List ℕ). x ++ 0 ∷ []) (zero_blocks n)
+    pub put_storable : Sized (length (take (a + current.entry - a) (drop a y))) × Storable e
+    put_storable = (rw lent shaped.entry, rw held_entry (after_storable fitted.accepted i lt (horizon l)))
 
-module _ {l : List ℕ} (d : List ℕ) {b : List ℕ} (r : Ready l b (length d)) {n : ℕ} (n_is : n ≡ horizon l) {zeros : List ℕ} (zeros_is : zeros ≡ replicate (length (take n d)) 0) where
-  zeros_filled : zeros ++ drop n d ≡ filled 1 d 0 (λ t. 0 ∷ []) (horizon l)
-  unfolding filled
-  zeros_filled =
-      let e : 0 + 1 * horizon l ≡ horizon l = omega arith in
-      rw (zeros_is, n_is, length-take-le (horizon l) d r.enough, zero_blocks (horizon l), e)
-
-  cleared : zeros ++ drop n d ≡ ran_output l d 0
-  unfolding ran_output
-  cleared = zeros_filled ∙ filled_same 1 d 0 _ _ (horizon l) (λ t lt. ap (λ (m : ℕ). m ∷ []) (sum_none (λ i. (loss_in l i t).kg)))
-
-  pub clear_ready : Ready l b (length (zeros ++ drop n d)) × (zeros ++ drop n d ≡ ran_output l (zeros ++ drop n d) 0)
-  clear_ready = rw cleared (record { fitted = r.fitted; enough = rw (output_sized l d 0 r.enough) r.enough }, sym (output_again l d 0 0))
-
-  pub clear_all : {y : List ℕ} → y ≡ ran_output l (zeros ++ drop n d) (cells l) → y ≡ ran_output l d (cells l)
-  clear_all y-is = rw (cleared, output_again l d 0 (cells l)) at y-is
+    pub put_next : {ws : List ℕ} → ws ≡ held_words (length (take (a + current.entry - a) (drop a y))) e →
+        Filling current.entry b current.head held (cells l) (i + 1) (put_mid a (a + current.entry - a) y ws)
+    put_next ws_is = filling_next r lt a here (rw (lent, held_entry) at ws_is)

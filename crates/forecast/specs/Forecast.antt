@@ -1,5 +1,5 @@
 -- Document 01, "Forecast, readings, discount, program": the forecast takes a listing l, a scratch book b and an output x. It opens the scratch
--- book, closes every year, and writes each year's kg over all cells.
+-- book, closes every year, and writes each year's kg over all cells. Document 02, job 4: it answers the last total.
 use Rattle.std.specs.Prelude.{ℕ, List, [], ◌∷◌, leb, length}
 use Rattle.words.specs.Answers.{Answer, accepted, need, after}
 use Rattle.words.specs.Blocks.{filled}
@@ -7,7 +7,7 @@ use Rattle.words.specs.Effect.{Effect, commit_both}
 use Rattle.words.specs.Refusals.{output_short}
 use Rattle.words.specs.Sums.{sum_below}
 use Rattle.listing.specs.Layout.{cells, horizon}
-use Rattle.book.specs.Current.{fitted}
+use Rattle.book.specs.Current.{fitted, kg_to_date}
 use Rattle.opening.specs.Opening.{open_book}
 use Rattle.closing.specs.Closing.{loss}
 use Rattle.years.specs.Years.{after_closings}
@@ -28,8 +28,16 @@ unfoldable pub output_checked : List ℕ → ℕ → Answer
 output_checked l capacity = need (leb (horizon l) capacity) output_short capacity (accepted 0)
 
 -- after 1 to 6
+unfoldable pub forecast_checked : List ℕ → List ℕ → ℕ → Answer
+forecast_checked l b capacity = after (fitted l b) (output_checked l capacity)
+
+-- the kg to date of all cells in book b
+unfoldable pub total_kg : List ℕ → List ℕ → ℕ
+total_kg l b = sum_below (kg_to_date l b) (cells l)
+
+-- refused by 1 to 6 and 15, and otherwise the last total: that of the book after every year
 unfoldable pub forecast_answer : List ℕ → List ℕ → ℕ → Answer
-forecast_answer l b capacity = after (fitted l b) (output_checked l capacity)
+forecast_answer l b capacity = after (forecast_checked l b capacity) (accepted (total_kg l (closed_book l (open_book l b))))
 
 -- where it is refused, neither slice is written
 unfoldable pub forecast_effect : List ℕ → List ℕ → List ℕ → Effect

@@ -1,35 +1,43 @@
--- How the forecast is worked out: a cell's loss depends on its own entry alone, so each cell runs through all years by itself.
--- proofs/Running.antt proves that the closings of an opened book come to this.
-use Rattle.std.specs.Prelude.{cond, List, [], ◌∷◌, ℕ, ◌+◌, ◌-◌, ◌^◌, ◌≤◌, ◌<◌, eqb, length, get_or}
+-- What the forecast keeps from one year to the next: the cells as they are, and one running total. By a cell's own years, since the book that
+-- holds them is written once, after the last; proofs/Running.antt proves that the closings of an opened book come to this.
+use Rattle.std.specs.Prelude.{◌≡◌, false, List, [], ◌∷◌, ℕ, ◌+◌, ◌-◌, ◌≤◌, ◌<◌, length, get_or}
 use Rattle.words.specs.Blocks.{filled}
 use Rattle.words.specs.Sums.{sum_below}
-use Rattle.listing.specs.Layout.{cells, horizon}
-use Rattle.book.specs.Current.{current, held_at, Fitted}
-use Rattle.years.specs.Years.{entries_after, loss_in}
+use Rattle.fields.specs.declared.Head.{Head}
+use Rattle.fields.specs.declared.Cell.{Cell}
+use Rattle.listing.specs.Layout.{head, cells, horizon, cell}
+use Rattle.year.specs.Year.{kg_of}
+use Rattle.year.specs.declared.Entry.{Entry}
+use Rattle.book.specs.Current.{Fitted}
+use Rattle.years.specs.Years.{entries_after}
+use Rattle.forecast.specs.declared.CellToDate.{CellToDate}
 
--- the years in which a cell of this plan year is inactive before it loses: all, where it has none
-unfoldable pub years_before_conversion : ℕ → ℕ → ℕ
-years_before_conversion plan horizon = cond (eqb plan 0) horizon (plan - 1)
+-- the entry of a cell that was only closed: no mark, the plan year of the listing, and its mm to date
+abbrev pub entry_of : CellToDate → Entry
+entry_of c = record { withdrawn = false; plan = c.cell.conversion; oxidised = c.lost.oxidised; burned = c.lost.burned }
 
--- book b with the words of the first n cells after every year
-unfoldable pub ran_cells : List ℕ → List ℕ → ℕ → List ℕ
-ran_cells l b n = filled current.entry b current.head (held_at (entries_after l (horizon l))) n
+-- a cell with the mm to date of an entry, and the entry's kg to date
+abbrev pub to_date : Head → Cell → Entry → CellToDate
+to_date h c e = record { cell = c; lost = record { oxidised = e.oxidised; burned = e.burned }; kg = kg_of h c e }
 
--- output x with cell i's kg of each year added to the year's number
-unfoldable pub added_years : List ℕ → ℕ → List ℕ → List ℕ
-added_years l i x = filled 1 x 0 (λ t. (get_or x t 0 + (loss_in l i t).kg) ∷ []) (horizon l)
+-- cell i after t years
+abbrev pub cell_after : List ℕ → ℕ → ℕ → CellToDate
+cell_after l t i = to_date (head l) (cell l i) (entries_after l t i)
 
--- output x with the kg of the first n cells as each year's number
-unfoldable pub ran_output : List ℕ → List ℕ → ℕ → List ℕ
-ran_output l x n = filled 1 x 0 (λ t. sum_below (λ i. (loss_in l i t).kg) n ∷ []) (horizon l)
+-- the first elements of xs are the cells of the listing after t years
+pub record CellsAfter (l : List ℕ) (t : ℕ) (xs : List CellToDate) : Type 0 where
+  pub enough : cells l ≤ length xs
+  pub each : (i : ℕ) (d : CellToDate) → i < cells l → get_or xs i d ≡ cell_after l t i
 
--- what a cell's years are given: no number of the output x is near its greatest
-pub record Running (l : List ℕ) (i : ℕ) (x : List ℕ) : Type 0 where
-  pub in_listing : i < cells l
-  pub enough : horizon l ≤ length x
-  pub small : (t : ℕ) → t < horizon l → get_or x t 0 < 2 ^ 63
+-- the running total: the kg to date of all cells after t years
+unfoldable pub total_after : List ℕ → ℕ → ℕ
+total_after l t = sum_below (λ i. (cell_after l t i).kg) (cells l)
 
--- what all cells' years are given: a book b that fits, and an output of `capacity` numbers
+-- output x with the difference of two totals as each year's number
+unfoldable pub output_of : List ℕ → List ℕ → List ℕ
+output_of l x = filled 1 x 0 (λ t. (total_after l (t + 1) - total_after l t) ∷ []) (horizon l)
+
+-- what all years are given: a book b that fits, and an output of `capacity` numbers
 pub record Ready (l b : List ℕ) (capacity : ℕ) : Type 0 where
   pub fitted : Fitted l b
   pub enough : horizon l ≤ capacity

@@ -1,20 +1,32 @@
-// The forecast: a listing's years on a scratch book, without replanning or withdrawal. What the closings
-// of all cells, year after year, come to is worked out cell by cell.
+// The forecast: a listing's years on a scratch book, without replanning or withdrawal, year after year.
 #![tactic(auto)]
 
-ghost use Rattle.std.specs.Prelude.{◌≡◌, ◌≤◌, length, IfOk};
-ghost use Rattle.words.specs.Answers.{outcome};
+ghost use Rattle.std.specs.Prelude.{◌≡◌, false, ◌+◌, ◌<◌, ◌≤◌, length, IfOk};
+ghost use Rattle.words.specs.Answers.{outcome, amount};
+ghost use Rattle.words.specs.Blocks.{filled};
 ghost use Rattle.words.specs.Effect.{effect};
-ghost use Rattle.listing.specs.Layout.{cells, horizon};
-ghost use Rattle.book.specs.Current.{new_book};
+ghost use Rattle.listing.specs.Layout.{head, cells, horizon, row};
+ghost use Rattle.year.specs.Year.{inactive, year_loss, after_loss};
+ghost use Rattle.book.specs.Current.{current, held_at, new_book, Fitted};
+ghost use Rattle.closing.specs.Closable.{CellYear};
 ghost use Rattle.years.specs.Years.{entries_after};
-ghost use Rattle.forecast.specs.Forecast.{output_checked, forecast_answer, forecast_effect};
-ghost use Rattle.forecast.specs.Running.{years_before_conversion, ran_cells, added_years, ran_output, Running, Ready};
+ghost use Rattle.forecast.specs.Forecast.{output_checked, forecast_checked, forecast_effect};
+ghost use Rattle.forecast.specs.Running.{entry_of, to_date, cell_after, total_after, output_of, CellsAfter, Ready};
 
 use book::BOOK;
+use fields::{Cell, MOST_CELLS};
 use listing::Listing;
 use words::{Reason, Refusal, need};
-use year::Entry;
+use year::{Entry, LostMm};
+
+// A cell as it is carried from one year to the next: its words in the listing, which are read once, its mm
+// to date, and its kg to date, so that a cell that loses nothing costs no emission.
+#[derive(Clone, Copy, Debug, PartialEq, Eq)]
+struct CellToDate {
+    cell: Cell,
+    lost: LostMm,
+    kg: u32,
+}
 
 // Number 15, for a valid listing. Of the output, lent to be written later, the length alone goes along.
 fn check_output(listing: &Listing<'_>, capacity: usize) -> Result<(), Refusal>
@@ -30,7 +42,7 @@ fn may_forecast<'a>(
     book: &[u32],
     capacity: usize,
 ) -> Result<Listing<'a>, Refusal>
-    ensures value { outcome result ≡ forecast_answer listing.now book.now capacity }
+    ensures value { outcome result ≡ forecast_checked listing.now book.now capacity }
     ensures same_words { IfOk result (λ l. l.words.now ≡ listing.now) }
 {
     let accepted = book::fits(BOOK, listing, book)?;
@@ -38,73 +50,140 @@ fn may_forecast<'a>(
     Ok(accepted)
 }
 
-// The years in which a cell of this plan year is inactive before it loses: all, where it has none.
-#[tactic(auto, unfolding(crate::specs::Running::years_before_conversion))]
-fn years_before_conversion(plan: u32, horizon: u32) -> u32
-    ensures { result ≡ years_before_conversion plan horizon }
+// A cell that was opened.
+fn opened_cell(listing: &Listing<'_>, i: usize) -> CellToDate
+    requires { i < cells listing.now.words.now }
+    ensures { result ≡ cell_after listing.now.words.now 0 i }
 {
-    if plan == 0 {
-        return horizon;
+    CellToDate {
+        cell: listing.cell(i),
+        lost: LostMm {
+            oxidised: 0,
+            burned: 0,
+        },
+        kg: 0,
     }
-    plan - 1
 }
 
-// One cell's years: adds its kg of each year to the year's number, and answers its entry after the
-// last. Its kg to date goes along, so that a year works it out once.
-fn run_cell(listing: &Listing<'_>, i: usize, output: &mut [u64]) -> Entry
-    requires { Running listing.now.words.now i output.old }
-    ensures value { result ≡ entries_after listing.now.words.now (horizon listing.now.words.now) i }
-    ensures new_output { output.new ≡ added_years listing.now.words.now i output.old }
+// Every cell, opened. What lies beyond the listing's cells is not read.
+fn opened_cells(listing: &Listing<'_>) -> [CellToDate; MOST_CELLS as usize]
+    ensures { CellsAfter listing.now.words.now 0 result }
 {
-    let c = listing.cell(i);
-    let mut e = year::opened(c.conversion);
-    let mut kg: u32 = 0;
-    let horizon = listing.figures.horizon;
-    let first = years_before_conversion(c.conversion, horizon);
-    for year in first..horizon {
-        let s = closing::cell_loss(listing, c, e, kg, year + 1);
-        output[year as usize] += u64::from(s.kg);
-        e = year::after_loss(e, s);
-        kg += s.kg;
+    let mut all = [opened_cell(listing, 0); MOST_CELLS as usize];
+    for i in 1..listing.figures.cells as usize {
+        all[i] = opened_cell(listing, i);
     }
-    e
+    all
 }
 
-// Every cell's years, on an output that begins with zeros: each cell's words, and the years' numbers. A walk
-// as that of `closing::close_cells`.
-fn run_cells(listing: &Listing<'_>, book: &mut [u32], output: &mut [u64])
-    requires { Ready listing.now.words.now book.old (length output.old) × (output.old ≡ ran_output listing.now.words.now output.old 0) }
-    ensures new_book { book.new ≡ ran_cells listing.now.words.now book.old (cells listing.now.words.now) }
-    ensures new_output { output.new ≡ ran_output listing.now.words.now output.old (cells listing.now.words.now) }
+// The entry of a cell that was only closed: no mark, and the plan year of the listing.
+fn entry_of(c: CellToDate) -> Entry
+    ensures { result ≡ entry_of c }
+{
+    Entry {
+        oxidised: c.lost.oxidised,
+        burned: c.lost.burned,
+        ..year::opened(c.cell.conversion)
+    }
+}
+
+// An active cell after `year`: the year's mm are added, and its kg to date are their emission.
+fn run_active(listing: &Listing<'_>, before: CellToDate, year: u32) -> CellToDate
+    requires { CellYear listing.now.words.now before.cell (entry_of before) year
+        × (inactive (head listing.now.words.now) before.cell (entry_of before) year ≡ false) }
+    ensures { result ≡ to_date (head listing.now.words.now) before.cell
+        (after_loss (entry_of before) (year_loss (head listing.now.words.now) (row listing.now.words.now) before.cell (entry_of before) year)) }
+{
+    let e = entry_of(before);
+    let r = closing::active_row(listing, before.cell, e, year);
+    let m = year::mm_of(listing.figures, before.cell, r, e);
+    let lost = LostMm {
+        oxidised: before.lost.oxidised + m.oxidised,
+        burned: before.lost.burned + m.burned,
+    };
+    let kg = year::emission(listing.figures, before.cell, lost.oxidised, lost.burned);
+    CellToDate { lost, kg, ..before }
+}
+
+// A cell after `year`: as it was, where it is inactive.
+fn run_cell(listing: &Listing<'_>, before: CellToDate, year: u32) -> CellToDate
+    requires { CellYear listing.now.words.now before.cell (entry_of before) year
+        × (before ≡ to_date (head listing.now.words.now) before.cell (entry_of before)) }
+    ensures { result ≡ to_date (head listing.now.words.now) before.cell
+        (after_loss (entry_of before) (year_loss (head listing.now.words.now) (row listing.now.words.now) before.cell (entry_of before) year)) }
+{
+    if year::inactive(listing.figures, before.cell, entry_of(before), year) {
+        return before;
+    }
+    run_active(listing, before, year)
+}
+
+// The year after the first `closed`, over all cells: answers their kg to date after it, added up once.
+fn run_year(listing: &Listing<'_>, all: &mut [CellToDate], closed: u32) -> u64
+    requires { CellsAfter listing.now.words.now closed all.old × (closed < horizon listing.now.words.now) }
+    ensures value { result ≡ total_after listing.now.words.now (closed + 1) }
+    ensures new_cells { CellsAfter listing.now.words.now (closed + 1) all.new }
+{
+    let mut total: u64 = 0;
+    for i in 0..listing.figures.cells as usize {
+        let c = run_cell(listing, all[i], closed + 1);
+        all[i] = c;
+        total += u64::from(c.kg);
+    }
+    total
+}
+
+// Every year, each number the difference of two totals. One running total of all cells' kg to date goes
+// from a year to the next; answers the last.
+fn run_years(listing: &Listing<'_>, all: &mut [CellToDate], output: &mut [u64]) -> u64
+    requires { CellsAfter listing.now.words.now 0 all.old × (horizon listing.now.words.now ≤ length output.old) }
+    ensures value { result ≡ total_after listing.now.words.now (horizon listing.now.words.now) }
+    ensures new_cells { CellsAfter listing.now.words.now (horizon listing.now.words.now) all.new }
+    ensures new_output { output.new ≡ output_of listing.now.words.now output.old }
+{
+    let mut total: u64 = 0;
+    for closed in 0..listing.figures.horizon {
+        let now = run_year(listing, all, closed);
+        output[closed as usize] = now - total;
+        total = now;
+    }
+    total
+}
+
+// Writes the cells' words. A walk as that of `closing::close_cells`.
+fn put_cells(listing: &Listing<'_>, book: &mut [u32], all: &[CellToDate])
+    requires { Fitted listing.now.words.now book.old × CellsAfter listing.now.words.now (horizon listing.now.words.now) all.now }
+    ensures { book.new ≡ filled current.entry book.old current.head
+        (held_at (entries_after listing.now.words.now (horizon listing.now.words.now))) (cells listing.now.words.now) }
 {
     for i in 0..listing.figures.cells as usize {
         let a = book::entry_at(BOOK, i);
         let e = a + BOOK.entry;
-        let held = run_cell(listing, i, output);
-        book::put_entry(&mut book[a..e], held);
+        book::put_entry(&mut book[a..e], entry_of(all[i]));
     }
 }
 
-// Writes the scratch book as it is after every year, and each year's kg.
-fn run_years(listing: &Listing<'_>, book: &mut [u32], output: &mut [u64])
+// Writes each year's kg, and the scratch book as it is after every year.
+fn write_years(listing: &Listing<'_>, book: &mut [u32], output: &mut [u64]) -> u64
     requires { Ready listing.now.words.now book.old (length output.old) }
+    ensures value { result ≡ total_after listing.now.words.now (horizon listing.now.words.now) }
     ensures new_book { book.new ≡
         new_book listing.now.words.now book.old (horizon listing.now.words.now) 0 (entries_after listing.now.words.now (horizon listing.now.words.now)) }
-    ensures new_output { output.new ≡ ran_output listing.now.words.now output.old (cells listing.now.words.now) }
+    ensures new_output { output.new ≡ output_of listing.now.words.now output.old }
 {
-    let horizon = listing.figures.horizon;
-    output[..horizon as usize].fill(0);
-    run_cells(listing, book, output);
-    book::put_year(book, horizon);
+    let mut all = opened_cells(listing);
+    let total = run_years(listing, &mut all, output);
+    put_cells(listing, book, &all);
+    book::put_year(book, listing.figures.horizon);
     book::put_issued(BOOK, book, 0);
+    total
 }
 
-// Opens the scratch book, closes every year on it, and writes each year's kg over all cells. What
-// the scratch book held is not tested.
-pub fn forecast(listing: &[u32], book: &mut [u32], output: &mut [u64]) -> Result<(), Refusal>
-    ensures { effect (outcome result) book.new output.new ≡ forecast_effect listing.now book.old output.old }
+// Opens the scratch book, closes every year on it, and writes each year's kg over all cells. What the
+// scratch book held is not tested. Answers the kg to date of all cells after the last year.
+pub fn forecast(listing: &[u32], book: &mut [u32], output: &mut [u64]) -> Result<u64, Refusal>
+    ensures { effect (amount result) book.new output.new ≡ forecast_effect listing.now book.old output.old }
 {
     let accepted = may_forecast(listing, &book[..], output.len())?;
-    run_years(&accepted, book, output);
-    Ok(())
+    Ok(write_years(&accepted, book, output))
 }

@@ -47,12 +47,12 @@ sum_rows f n (suc rows) =
 
 -- ---- in another order
 
-sum_zero : (n : ℕ) → sum_below (λ k. 0) n ≡ 0
+pub sum_zero : (n : ℕ) → sum_below (λ k. 0) n ≡ 0
 unfolding sum_below
 sum_zero zero = refl
 sum_zero (suc n) = omega (arith, sum_zero n)
 
-sum_add : (f g : ℕ → ℕ) (n : ℕ) → sum_below (λ k. f k + g k) n ≡ sum_below f n + sum_below g n
+pub sum_add : (f g : ℕ → ℕ) (n : ℕ) → sum_below (λ k. f k + g k) n ≡ sum_below f n + sum_below g n
 unfolding sum_below
 sum_add f g zero = refl
 sum_add f g (suc n) = omega (arith, sum_add f g n)

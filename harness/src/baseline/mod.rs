@@ -12,7 +12,7 @@ mod reading;
 
 pub use reading::{core, levels};
 
-use crate::Answer;
+use crate::{Answer, Total};
 use std::slice::{from_raw_parts, from_raw_parts_mut};
 
 /// What an accepted call answers (0 where it answers nothing), or its refusal.
@@ -96,7 +96,7 @@ pub unsafe extern "C" fn forecast(
     book_len: usize,
     output: *mut u64,
     output_len: usize,
-) -> Answer {
+) -> Total {
     // SAFETY: the caller's.
     let (listing, book, output) = unsafe {
         (
@@ -105,7 +105,17 @@ pub unsafe extern "C" fn forecast(
             from_raw_parts_mut(output, output_len),
         )
     };
-    answer(forecast::forecast(listing, book, output))
+    match forecast::forecast(listing, book, output) {
+        Ok(total) => Total {
+            total,
+            ..Total::default()
+        },
+        Err(Answer { number, place, .. }) => Total {
+            number,
+            place,
+            total: 0,
+        },
+    }
 }
 
 /// # Safety

@@ -13,7 +13,7 @@ use super::stops::{
 };
 use super::words::index;
 use super::year::{emission, lines_of_year, remaining};
-use crate::{Account, Answer};
+use crate::{Account, Answer, Total};
 
 /// Where open stops.
 fn stop_open(listing: &[u32], book: &[u32]) -> Result<(), Answer> {
@@ -126,9 +126,7 @@ pub fn issue(listing: &[u32], book: &mut [u32]) -> Answer {
     if let Err(refusal) = stop_issue(listing, book) {
         return refusal;
     }
-    let kilograms = (0..cells(listing))
-        .map(|cell| kilograms_to_date(listing, book, cell))
-        .sum();
+    let kilograms = all_kilograms_to_date(listing, book);
     let balance = balance(listing, current_year(book), kilograms);
     let tonnes = (balance - issued(book)).max(0);
     write_issued(book, issued(book) + tonnes);
@@ -139,6 +137,13 @@ pub fn issue(listing: &[u32], book: &mut [u32]) -> Answer {
 fn kilograms_to_date(listing: &[u32], book: &[u32], cell: i128) -> i128 {
     let entry = entry(book, cell);
     emission(listing, cell, entry.oxidised, entry.burned)
+}
+
+/// "the kg to date of all cells added"
+fn all_kilograms_to_date(listing: &[u32], book: &[u32]) -> i128 {
+    (0..cells(listing))
+        .map(|cell| kilograms_to_date(listing, book, cell))
+        .sum()
 }
 
 /// Where statement stops.
@@ -183,9 +188,17 @@ fn stop_forecast(listing: &[u32], book: &[u32], output: &[u64]) -> Result<(), An
 /// "It opens the scratch book, closes every year, and writes each year's kg over all cells." None
 /// of these calls is refused: 1 to 6 are checked, and a year loses at most 1,023 mm by oxidation
 /// and 1,023 mm by burning, which is less than 51,000,000 kg, so that 14 does not arise.
-pub fn forecast(listing: &[u32], book: &mut [u32], output: &mut [u64]) -> Answer {
-    if let Err(refusal) = stop_forecast(listing, book, output) {
-        return refusal;
+///
+/// Of document 02's faster forecast: "Its output for every listing is the one it has now", so each
+/// year's kg is still its lines added up, with no running total kept from year to year. It is to
+/// "also answer the last total", which is worked out from the O and B that the book then holds.
+pub fn forecast(listing: &[u32], book: &mut [u32], output: &mut [u64]) -> Total {
+    if let Err(Answer { number, place, .. }) = stop_forecast(listing, book, output) {
+        return Total {
+            number,
+            place,
+            ..Total::default()
+        };
     }
     let mut lines = vec![0; index(lines_words(cells(listing)))];
     assert_eq!(open(listing, book).number, 0);
@@ -195,6 +208,18 @@ pub fn forecast(listing: &[u32], book: &mut [u32], output: &mut [u64]) -> Answer
             .map(|cell| read_lines(&lines, cell).kilograms)
             .sum();
         output[index(year - 1)] = kilograms.try_into().unwrap();
+        assert_adds_up(listing, book, &output[..index(year)]);
     }
-    accepted(0)
+    Total {
+        number: 0,
+        place: 0,
+        total: all_kilograms_to_date(listing, book).try_into().unwrap(),
+    }
+}
+
+/// "after each year its numbers so far add up to the kg to date of all cells then, and the numbers
+/// of all years to that answer": after the last year they are all, and the kg to date that answer.
+fn assert_adds_up(listing: &[u32], book: &[u32], so_far: &[u64]) {
+    let added: i128 = so_far.iter().map(|&kilograms| i128::from(kilograms)).sum();
+    assert_eq!(added, all_kilograms_to_date(listing, book));
 }

@@ -1,23 +1,29 @@
--- `forecast::run_years` meets its contract: the cells are run over zeros, and then the head's two words are stored. Assumes nothing.
-use mathlib.Core.Path.{◌≡◌}
-use lib.ListN.{length, take, replicate}
+-- `forecast::run_years` meets its contract: iteration t closes the year t + 1, and its number is the difference of two totals. Assumes nothing.
+use Prim.Native.Nat.{◌<◌}
+use native.Mathlib.Omega.{arith}
+use Rattle.listing.specs.Layout.{horizon}
 use Rattle.listing.proofs.Accepted.{listing_horizon}
-use Rattle.book.specs.Held.{new_book}
-use Rattle.forecast.specs.Running.{ran_cells}
-use Rattle.forecast.proofs.Loop.{clear_ready, clear_all}
+use Rattle.forecast.proofs.Loop.{years_none, years_within, years_difference, years_next, years_all}
 use Rattle.forecast.proofs.run_years.Goals as goal
-use Rattle.forecast.proofs.run_years.Goals.{After-fill}
+use Rattle.forecast.proofs.run_years.Goals.{In-loop-closed}
 
-zeros : (c : After-fill) → c.fill.new.self ≡ replicate (length (take c.args.listing.now.figures.horizon c.args.output.now)) 0
-zeros c = c.fill.ensures.after (λ y e. e)
+pub loop-closed-init : goal.loop-closed-init
+loop-closed-init c = years_none c.requires.0 c.requires.1
 
-pub run_cells-requires : goal.run_cells-requires
-run_cells-requires c = clear_ready _ c.requires (listing_horizon c.args.listing.now) (zeros (goal.at.run_cells-requires c).After-fill)
+-- the iteration of the year t + 1
+there : (n : In-loop-closed) → n.loop-closed.closed < horizon n.args.listing.now.words.now
+there n = omega (arith, listing_horizon n.args.listing.now, n.loop-closed-test.true)
+
+pub overflow_sub-output : goal.overflow_sub-output
+overflow_sub-output c =
+    years_difference c.loop-closed.invariant (there (goal.at.overflow_sub-output c).In-loop-closed) c.run_year-now.ensures.value
+
+pub loop-closed-preserved : goal.loop-closed-preserved
+loop-closed-preserved c =
+    let year = c.run_year-now.ensures in
+    years_next c.loop-closed.invariant (there (goal.at.loop-closed-preserved c).In-loop-closed) year.value year.new_cells
 
 pub returns : goal.returns
-unfolding new_book ran_cells
 returns c =
-    record {
-      new_book = rw (c.put_issued.ensures, c.put_year.ensures, c.run_cells.ensures.new_book, listing_horizon c.args.listing.now);
-      new_output = clear_all _ c.requires (listing_horizon c.args.listing.now) (zeros (goal.at.returns c).After-fill) c.run_cells.ensures.new_output;
-    }
+    let all = years_all c.loop-closed.invariant (omega (arith, c.loop-closed-test.false, listing_horizon c.args.listing.now)) in
+    record { value = all.0; new_cells = all.1; new_output = all.2 }

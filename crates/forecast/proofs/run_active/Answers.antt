@@ -1,0 +1,45 @@
+-- `forecast::run_active` meets its contract: the year's mm are those of the row of the cell's own stratum and age. Assumes nothing.
+use mathlib.Core.Path.{◌≡◌, ◌∙◌}
+use Prim.Native.Nat.{◌+◌, ◌<◌}
+use native.Mathlib.Omega.{arith}
+use Rattle.fields.specs.declared.Row.{Row}
+use Rattle.fields.specs.Valid.{RowValid}
+use Rattle.listing.specs.Layout.{head, row}
+use Rattle.year.specs.Year.{age, mm_of}
+use Rattle.year.specs.Limits.{WithinLimits}
+use Rattle.forecast.specs.Running.{entry_of}
+use Rattle.forecast.proofs.Loop.{active_fit, then_fit, active_is}
+use Rattle.forecast.proofs.run_active.Goals as goal
+use Rattle.forecast.proofs.run_active.Goals.{After-active_row-r, After-mm_of-m}
+
+-- the row that was read, and what it gives
+row_is : (c : After-active_row-r) → c.active_row-r.result ≡ row c.args.listing.now.words.now c.args.before.cell.stratum (age c.args.before.cell.conversion c.args.year)
+row_is c = rw c.entry_of-e.ensures at c.active_row-r.ensures
+
+mm_is : (c : After-mm_of-m) → c.mm_of-m.result ≡ mm_of (head c.args.listing.now.words.now) c.args.before.cell c.active_row-r.result (entry_of c.args.before)
+mm_is c = rw (c.args.listing.now.is_head, c.entry_of-e.ensures) at c.mm_of-m.ensures
+
+pub mm_of-m-requires : goal.mm_of-m-requires
+mm_of-m-requires c =
+    rw (c.args.listing.now.is_head, c.entry_of-e.ensures)
+    (active_fit c.args.listing.now.words.now c.args.before c.args.year c.args.listing.now.accepted c.requires.0 c.requires.1 (row_is (goal.at.mm_of-m-requires c).After-active_row-r))
+
+-- the mm to date then
+fit : (c : After-mm_of-m) →
+    WithinLimits (head c.args.listing.now.words.now) c.args.before.cell (c.args.before.lost.oxidised + c.mm_of-m.result.oxidised) (c.args.before.lost.burned + c.mm_of-m.result.burned)
+fit c = then_fit c.args.listing.now.words.now c.args.before c.args.year c.args.listing.now.accepted c.requires.0 c.requires.1 (row_is (goal.at.After-mm_of-m c).After-active_row-r) (mm_is c)
+
+pub overflow_add-lost : goal.overflow_add-lost
+overflow_add-lost c = let f = fit (goal.at.overflow_add-lost c).After-mm_of-m in record { fits = omega (arith, f.lost, f.cell_valid.entered) }
+
+pub overflow_add-lost-2 : goal.overflow_add-lost-2
+overflow_add-lost-2 c = let f = fit (goal.at.overflow_add-lost-2 c).After-mm_of-m in record { fits = omega (arith, f.lost, f.cell_valid.entered) }
+
+pub emission-kg-requires : goal.emission-kg-requires
+emission-kg-requires c = rw c.args.listing.now.is_head (fit (goal.at.emission-kg-requires c).After-mm_of-m)
+
+pub returns : goal.returns
+returns c =
+    let at = goal.at.returns c in
+    active_is c.args.listing.now.words.now c.args.before c.args.year c.args.listing.now.accepted c.requires.0 c.requires.1 (row_is at.After-active_row-r) (mm_is at.After-mm_of-m)
+    (rw c.args.listing.now.is_head at c.emission-kg.ensures)
