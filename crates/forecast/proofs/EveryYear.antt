@@ -7,7 +7,7 @@ use native.Mathlib.Omega.{arith}
 use lib.ListN.{length, get_or}
 use borrow.Author.Tests.{leb-true}
 use Rattle.words.specs.Answers.{Answer, accepted}
-use Rattle.words.proofs.Answers.{need_accepted, after_accepted}
+use Rattle.words.proofs.Answers.{need_accepted, after_accepted, after_is}
 use Rattle.words.specs.Effect.{written}
 use Rattle.words.proofs.Blocks.{filled_word, filled_behind}
 use Rattle.words.proofs.Effect.{written_new}
@@ -31,13 +31,20 @@ use Rattle.forecast.specs.Closings.{Closes, EveryYear}
 -- ---- an accepted forecast passed its tests
 
 module _ (l b : List ℕ) (capacity : ℕ) where
-  checked_passed : (forecast_checked l b capacity).done ≡ true → ((fitted l b).done ≡ true) × ((output_checked l capacity).done ≡ true)
+  pub checked_passed : (forecast_checked l b capacity).done ≡ true → ((fitted l b).done ≡ true) × ((output_checked l capacity).done ≡ true)
   unfolding forecast_checked
   checked_passed h = after_accepted _ _ h
 
-  pub tests_passed : (forecast_answer l b capacity).done ≡ true → ((fitted l b).done ≡ true) × ((output_checked l capacity).done ≡ true)
+  pub answer_tests : (forecast_answer l b capacity).done ≡ true → (forecast_checked l b capacity).done ≡ true
   unfolding forecast_answer
-  tests_passed h = checked_passed (after_accepted _ _ h).0
+  answer_tests h = (after_accepted _ _ h).0
+
+  pub tests_answer : (forecast_checked l b capacity).done ≡ true → (forecast_answer l b capacity).done ≡ true
+  unfolding forecast_answer
+  tests_answer h = sym (ap (λ (a : Answer). a.done) (after_is _ (forecast_checked l b capacity) h))
+
+  pub tests_passed : (forecast_answer l b capacity).done ≡ true → ((fitted l b).done ≡ true) × ((output_checked l capacity).done ≡ true)
+  tests_passed h = checked_passed (answer_tests h)
 
 -- ---- the years of an opened book
 
@@ -64,14 +71,14 @@ module _ (l b : List ℕ) (fits : (fitted l b).done ≡ true) where
       }
 
 -- the number of year t + 1
-output_number : (l b x : List ℕ) (t : ℕ) → t < horizon l → get_or (output_after l b x) t 0 ≡ year_kg l (after_closings l b t)
+pub output_number : (l b x : List ℕ) (t : ℕ) → t < horizon l → get_or (output_after l b x) t 0 ≡ year_kg l (after_closings l b t)
 unfolding output_after
 output_number l b x t lt =
     let e : 0 + 1 * t + 0 ≡ t = omega arith in
     rw e at (filled_word 1 x 0 (λ t. year_kg l (after_closings l b t) ∷ []) (λ t. refl) zero-le (horizon l) t 0 lt (omega arith))
 
 -- what open leaves where it is accepted, and what the forecast does
-opened_book : (l b : List ℕ) → (fitted l b).done ≡ true → (open_effect l b).book ≡ open_book l b
+pub opened_book : (l b : List ℕ) → (fitted l b).done ≡ true → (open_effect l b).book ≡ open_book l b
 unfolding open_effect
 opened_book l b fits = written_new (fitted l b) b (open_book l b) fits
 
@@ -80,7 +87,7 @@ module _ (l b x : List ℕ) (h : (forecast_effect l b x).answer.done ≡ true) w
   unfolding forecast_effect closed_book
   forecast_book = written_new (forecast_answer l b (length x)) b (after_closings l (open_book l b) (horizon l)) h
 
-  forecast_output : (forecast_effect l b x).output ≡ output_after l (open_book l b) x
+  pub forecast_output : (forecast_effect l b x).output ≡ output_after l (open_book l b) x
   unfolding forecast_effect
   forecast_output = written_new (forecast_answer l b (length x)) x (output_after l (open_book l b) x) h
 

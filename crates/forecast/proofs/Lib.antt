@@ -2,4 +2,5 @@
 pub mod Running
 pub mod Loop
 pub mod EveryYear
+pub mod EveryTotal
 pub mod Untouched

@@ -2,7 +2,7 @@
 use mathlib.Core.Path.{◌≡◌, refl, sym, ap, ap₂, ◌∙◌}
 use mathlib.Core.Bool.{Bool, true, false}
 use mathlib.Core.List.{List, [], ◌∷◌}
-use Prim.Native.Nat.{ℕ, ◌+◌, ◌-◌, ◌*◌, ◌^◌, ◌≤◌, ◌<◌}
+use Prim.Native.Nat.{ℕ, ◌+◌, ◌-◌, ◌^◌, ◌≤◌, ◌<◌}
 use native.Mathlib.Nat.{le_antisymm}
 use native.Mathlib.Omega.{arith}
 use lib.ListN.{length, get_or, set, take, drop, replicate, length-set, length-replicate}
@@ -30,11 +30,11 @@ use Rattle.book.specs.AcceptedBook.{Storable}
 use Rattle.book.proofs.AcceptedBook.{shaped}
 use Rattle.closing.specs.Closable.{CellYear}
 use Rattle.closing.proofs.Closable.{cell_year_valid, cell_year_fit}
-use Rattle.years.specs.Years.{entries_after, loss_in}
+use Rattle.years.specs.Years.{entries_after}
 use Rattle.years.proofs.After.{after_plan, after_next, after_valid, after_storable}
 use Rattle.forecast.specs.declared.CellToDate.{CellToDate}
 use Rattle.forecast.specs.Running.{entry_of, to_date, cell_after, total_after, output_of, CellsAfter}
-use Rattle.forecast.proofs.Running.{total_none, total_next, total_grows, total_fits}
+use Rattle.forecast.proofs.Running.{total_none, total_grows, total_fits}
 
 -- ---- a list that a loop goes through, element after element: the first i of n are g's, and the others f's still
 pub record Stepped {A : Type 0} (f g : ℕ → A) (n i : ℕ) (xs : List A) : Type 0 where

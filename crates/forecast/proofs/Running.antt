@@ -2,7 +2,7 @@
 use mathlib.Core.Path.{◌≡◌, sym, ap, ◌∙◌}
 use mathlib.Core.Bool.{true}
 use mathlib.Core.List.{List, [], ◌∷◌}
-use Prim.Native.Nat.{ℕ, ◌+◌, ◌-◌, ◌*◌, ◌^◌, ◌≤◌, ◌<◌}
+use Prim.Native.Nat.{ℕ, ◌+◌, ◌-◌, ◌^◌, ◌≤◌, ◌<◌}
 use native.Mathlib.Nat.{le_refl}
 use native.Mathlib.Omega.{arith}
 use Rattle.words.specs.Sums.{sum_below}
@@ -26,7 +26,7 @@ use Rattle.forecast.specs.Running.{cell_after, total_after, output_of}
 
 module _ (l : List ℕ) where
   -- the kg of all cells in the year t + 1
-  abbrev year_sum : ℕ → ℕ
+  abbrev pub year_sum : ℕ → ℕ
   year_sum t = sum_below (λ i. (loss_in l i t).kg) (cells l)
 
   -- nothing before the first year

@@ -9,19 +9,20 @@ use lib.ListN.{length}
 use borrow.Author.Tests.{lt-ltb}
 use Rattle.words.specs.Answers.{Answer, accepted, after}
 use Rattle.words.specs.Effect.{written}
+use Rattle.words.specs.Sums.{sum_below}
 use Rattle.words.proofs.Answers.{cond_both, after_both}
 use Rattle.words.proofs.Effect.{written_new, written_both}
 use Rattle.words.proofs.Signed.{by_less}
 use Rattle.fields.specs.declared.Head.{Head}
 use Rattle.fields.specs.declared.Cell.{Cell}
-use Rattle.listing.specs.Layout.{head, strata, cell}
+use Rattle.listing.specs.Layout.{head, cells, strata, cell}
 use Rattle.year.specs.Year.{kg_of, planned, marked}
 use Rattle.year.proofs.Laws.{converted, same_figures}
 use Rattle.book.specs.Current.{current, entry, kg_to_date, fitted, book_checked, admitted, AcceptedBook}
 use Rattle.book.specs.Layout.{year}
 use Rattle.book.specs.Check as check
 use Rattle.book.proofs.Valid.{admitted_valid, valid_checked, fitted_is, checked_admits}
-use Rattle.book.proofs.AcceptedBook.{shaped, accepted_book}
+use Rattle.book.proofs.AcceptedBook.{shaped, fitted_accepted, accepted_book}
 use Rattle.book.proofs.Keeps.{admitted_fitted}
 use Rattle.balance.specs.Balance.{balance_in, due, tonnes_due}
 use Rattle.balance.proofs.Bounds.{balance_by}
@@ -33,11 +34,12 @@ use Rattle.ledger.specs.Calls.{issue_answer, issue_effect, StatementAnswer, no_f
 use Rattle.ledger.specs.Calls.{lines_buffer}
 use Rattle.ledger.proofs.AdmittedCell.{admitted_cell_accepted, unwithdrawn_accepted, replan_accepted}
 use Rattle.ledger.proofs.After.{call_admitted, call_admits}
-use Rattle.order.specs.Order.{SameYear, Order, Moved, ListingMoved, BookMoved, LinesMoved, moved, SameCall}
+use Rattle.order.specs.Order.{SameYear, Order, Moved, ListingMoved, BookMoved, LinesMoved, ProjectMoved, ButForPlace, moved, SameCall}
+use Rattle.order.proofs.Answers.{alike_same}
 use Rattle.order.proofs.Moved.{to_within, to_beyond, moved_there, same_sum}
 use Rattle.order.proofs.OwnWords.{own_words}
 use Rattle.order.proofs.Listings.{cells_is, horizon_is, cell_is, row_is, terms_are_lem}
-use Rattle.order.proofs.Books.{year_is, issued_is, entry_is, there, plan_moved, issued_moved, closed_moved, lines_moved}
+use Rattle.order.proofs.Books.{year_is, issued_is, entry_is, there, plan_moved, issued_moved, closed_moved, lines_moved, fitted_alike, book_alike}
 
 -- ---- what two calls leave
 
@@ -117,11 +119,13 @@ module _ {n : ℕ} {o : Order n} {l l' b b' : List ℕ} (v : Pair o l l' b b') w
   kg_is : (m : ℕ) → m < n → kg_to_date l' b' m ≡ kg_to_date l b (o.from m)
   kg_is m lt = ap (λ (h : Head). kg_of h (cell l' m) (entry b' m)) e.head_is ∙ ap₂ (kg_of (head l)) (cell_is e m lt) (entry_is eb m lt)
 
+  pub kg_sum_is : sum_below (kg_to_date l' b') (cells l') ≡ sum_below (kg_to_date l b) (cells l)
+  kg_sum_is = rw (cells_is e, e.count) (same_sum o (kg_to_date l b) (kg_to_date l' b') kg_is)
+
   due_is : tonnes_due l' b' ≡ tonnes_due l b
   due_is =
       let balance_is : balance_in l' b' ≡ balance_in l b =
-      balance_by l' l (year b') (year b) (kg_to_date l' b') (kg_to_date l b) (year_is eb) (rw (cells_is e, e.count) (same_sum o (kg_to_date l b) (kg_to_date l' b') kg_is))
-      (ap (λ (h : Head). h.buffer) e.head_is) (terms_are_lem e) in
+      balance_by l' l (year b') (year b) (kg_to_date l' b') (kg_to_date l b) (year_is eb) kg_sum_is (ap (λ (h : Head). h.buffer) e.head_is) (terms_are_lem e) in
       ap₂ due balance_is (issued_is eb)
 
   -- ---- a year
@@ -258,3 +262,19 @@ same_call {l = l} {b = b} v a c y long =
       lines_moved = lines_same v c y (alike v a c y long);
       statement_is = statement_same (pair_next v a c y long) (call_admits l b c a);
     }
+
+-- ---- any listing and any book, valid or not: by tests that are the same but for the place
+
+module _ {n : ℕ} {o : Order n} {l l' b b' : List ℕ} (p : ProjectMoved o l b l' b') where
+  pub related : Related ButForPlace l l' b b'
+  related =
+      let fits = fitted_alike p.listing b b' p.length_is in
+      record {
+        same = alike_same;
+        both_done = λ a a' e. sym e.done_is;
+        fits = fits;
+        checks = λ done. book_alike p.listing p.book (fitted_accepted current l b shaped done) (fitted_accepted current l' b' shaped (fits.done_is ∙ done));
+      }
+
+  pub pair_alike : Pair o l l' b b'
+  pair_alike = record { listing = p.listing; book = p.book; admits = λ a. (admitted_by related).done_is ∙ a }

@@ -10,8 +10,7 @@ use Rattle.ledger.specs.Calls.{open_effect, call_effect, Call}
 use Rattle.ledger.proofs.After.{opened_holds, call_admits}
 use Rattle.order.specs.Order.{Order, ListingMoved, moved, SameCalls, EveryOrder, EveryOrderFrom}
 use Rattle.order.proofs.Books.{fitted_alike, open_moved}
-use Rattle.order.proofs.Calls.{written_moved, none_moved, Pair, statement_same, pair_next, same_call}
-use Rattle.order.proofs.EveryBook.{pair_alike}
+use Rattle.order.proofs.Calls.{written_moved, none_moved, Pair, statement_same, pair_next, same_call, pair_alike}
 
 -- ---- a list of calls
 

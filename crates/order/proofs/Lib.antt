@@ -5,8 +5,8 @@ pub mod Moved
 pub mod Listings
 pub mod Books
 pub mod Calls
-pub mod EveryBook
 pub mod EveryOrder
 pub mod Orders
 pub mod EveryForecast
+pub mod EveryBook
 pub mod Strata

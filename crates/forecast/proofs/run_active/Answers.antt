@@ -1,9 +1,7 @@
 -- `forecast::run_active` meets its contract: the year's mm are those of the row of the cell's own stratum and age. Assumes nothing.
-use mathlib.Core.Path.{◌≡◌, ◌∙◌}
-use Prim.Native.Nat.{◌+◌, ◌<◌}
+use mathlib.Core.Path.{◌≡◌}
+use Prim.Native.Nat.{◌+◌}
 use native.Mathlib.Omega.{arith}
-use Rattle.fields.specs.declared.Row.{Row}
-use Rattle.fields.specs.Valid.{RowValid}
 use Rattle.listing.specs.Layout.{head, row}
 use Rattle.year.specs.Year.{age, mm_of}
 use Rattle.year.specs.Limits.{WithinLimits}

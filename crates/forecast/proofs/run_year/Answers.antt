@@ -1,5 +1,5 @@
 -- `forecast::run_year` meets its contract: iteration i adds the year to cell i, and its kg to date to the total. Assumes nothing.
-use mathlib.Core.Path.{◌≡◌, ◌∙◌}
+use mathlib.Core.Path.{◌≡◌}
 use Prim.Native.Nat.{◌<◌}
 use native.Mathlib.Nat.{le_refl}
 use native.Mathlib.Omega.{arith}

@@ -3,7 +3,7 @@ use Prim.Native.Nat.{◌<◌}
 use native.Mathlib.Omega.{arith}
 use Rattle.listing.specs.Layout.{horizon}
 use Rattle.listing.proofs.Accepted.{listing_horizon}
-use Rattle.forecast.proofs.Loop.{years_none, years_within, years_difference, years_next, years_all}
+use Rattle.forecast.proofs.Loop.{years_none, years_difference, years_next, years_all}
 use Rattle.forecast.proofs.run_years.Goals as goal
 use Rattle.forecast.proofs.run_years.Goals.{In-loop-closed}
 
