@@ -78,6 +78,13 @@ typedef struct {
     bool withdrawn;
 } peat_account;
 
+/* What a forecast answers: kg CO2e to date of all cells after the last year, 0 where it is refused. */
+typedef struct {
+    uint32_t number;
+    size_t place;
+    uint64_t total;
+} peat_total;
+
 /* The test of logged blocks: the average in tenths of t C per ha, rounded down, and whether the test holds. */
 typedef struct {
     uint32_t number;
@@ -113,9 +120,10 @@ peat_account peat_statement(const uint32_t *listing, size_t listing_len, const u
 /*
  * Works out every year to the horizon, as planned in the listing. Writes each year's kg CO2e over all cells into
  * `output`, year 1 first. `book` is scratch: whatever it holds is overwritten, and it is left as closed at the horizon.
+ * total: the kg CO2e to date of all cells then, which is what all years' numbers add up to. It may pass 32 bits.
  */
-peat_answer peat_forecast(const uint32_t *listing, size_t listing_len, uint32_t *book, size_t book_len,
-                          uint64_t *output, size_t output_len);
+peat_total peat_forecast(const uint32_t *listing, size_t listing_len, uint32_t *book, size_t book_len,
+                         uint64_t *output, size_t output_len);
 
 /* A core depth of 0 to 20 m. value: whole mm, rounded down from 1,000 times the exact binary value. */
 peat_answer peat_core(float metres);

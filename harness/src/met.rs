@@ -29,6 +29,16 @@ const GROUPS: &[(&str, &[&str])] = &[
         "forecast",
         &["accepted", "1", "2", "3", "4", "5", "6", "15"],
     ),
+    (
+        "accepted forecast",
+        &[
+            "total 0",
+            "total above 0 that fits 32 bits",
+            "total that does not",
+            "nothing in the first year, something later",
+            "something in a year, nothing later",
+        ],
+    ),
     ("core", &["accepted", "16", "17"]),
     ("levels", &["accepted", "16", "17"]),
     ("missing", &["18"]),

@@ -3,7 +3,7 @@ use harness::generate::{self, Random};
 use harness::reference::{self, History};
 use harness::sample::{with_site_word, worked_with, CHAR_WORD, NEGATIVE_TERM, SITE_WORD, WORKED};
 use harness::site::{Cell, Row, Site, SiteWord, LINE_WORDS};
-use harness::{Account, Answer, Ledger, LoggedAnswer, Reading, PROVED, REFERENCE};
+use harness::{Account, Answer, Ledger, LoggedAnswer, Reading, Total, PROVED, REFERENCE};
 
 fn both(check: impl Fn(&Ledger)) {
     check(&REFERENCE);
@@ -22,6 +22,22 @@ fn refused(number: u32, place: usize) -> Answer {
         number,
         place,
         value: 0,
+    }
+}
+
+/// Of a forecast: the kg to date of all cells after the last year.
+fn total(total: u64) -> Total {
+    Total {
+        total,
+        ..Total::default()
+    }
+}
+
+fn forecast_refused(number: u32, place: usize) -> Total {
+    Total {
+        number,
+        place,
+        total: 0,
     }
 }
 
@@ -164,7 +180,7 @@ fn worked_requests() {
             assert_eq!((ledger.statement)(&listing, &book, 0).remaining, left);
             let mut output = [0; 2];
             let answer = (ledger.forecast)(&listing, &mut book, &mut output);
-            assert_eq!(answer, accepted(0));
+            assert_eq!(answer, total(u64::from(kg) + 82_500));
             assert_eq!(output, [u64::from(kg), 82_500]);
         });
     }
@@ -406,7 +422,7 @@ fn worked_second_year() {
         let mut output = [7; 3];
         assert_eq!(
             (ledger.forecast)(&WORKED, &mut [7; 5], &mut output),
-            accepted(0)
+            total(775_000)
         );
         assert_eq!(output, [692_500, 82_500, 7]);
     });
@@ -661,7 +677,10 @@ fn lengths() {
             let refusal = refused(6, length);
             assert_eq!((ledger.open)(&WORKED, short), refusal);
             assert_eq!((ledger.close)(&WORKED, short, &mut []), refusal);
-            assert_eq!((ledger.forecast)(&WORKED, short, &mut []), refusal);
+            assert_eq!(
+                (ledger.forecast)(&WORKED, short, &mut []),
+                forecast_refused(6, length)
+            );
         }
         assert_eq!((ledger.open)(&WORKED, &mut book), accepted(0));
         for length in 0..3 {
@@ -670,7 +689,7 @@ fn lengths() {
         }
         for length in 0..2 {
             let answer = (ledger.forecast)(&WORKED, &mut [0; 5], &mut [0; 2][..length]);
-            assert_eq!(answer, refused(15, length));
+            assert_eq!(answer, forecast_refused(15, length));
         }
         assert_eq!((ledger.close)(&[], &mut [], &mut []), refused(1, 0));
         assert_eq!((ledger.statement)(&[], &[], 0).number, 1);
@@ -695,10 +714,8 @@ fn largest() {
         assert_eq!(last, refused(9, 0));
         let mut output = [0; 100];
         let mut scratch = vec![0; book.len()];
-        assert_eq!(
-            (ledger.forecast)(&listing, &mut scratch, &mut output),
-            accepted(0)
-        );
+        let answer = (ledger.forecast)(&listing, &mut scratch, &mut output);
+        assert_eq!(answer, total(output.iter().sum()));
         (returned, book, scratch, output)
     });
     assert!(results[0] == results[1]);
@@ -735,6 +752,42 @@ fn greatest_line() {
             assert_eq!(lines[2], 15 << 28 | kg);
         });
     }
+}
+
+/// 256 cells of 20,000 mm that all burn with the greatest weight: 816,000,000 kg each, 208,896,000,000 in all. A year
+/// burns 1,023 mm, the 20th the 563 that are left, and a mm of all cells emits 256 × 40,800 kg.
+#[test]
+fn greatest_total() {
+    let row = Row {
+        drainage: 255,
+        oxidation: 0,
+        burning: 1_023,
+    };
+    let cell = Cell {
+        stratum: 0,
+        conversion: 1,
+        entered: 20_000,
+        area: 10_000,
+        density: 2_400,
+    };
+    let site = Site {
+        horizon: 21,
+        char: 0,
+        buffer: 0,
+        warming: 100,
+        methane: 100,
+        site_word: None,
+        tables: vec![vec![row; 21]],
+        cells: vec![cell; 256],
+        terms: vec![],
+    };
+    both(|ledger| {
+        let mut output = [7; 22];
+        let answer = (ledger.forecast)(&site.words(), &mut [0; 770], &mut output);
+        assert_eq!(answer, total(208_896_000_000));
+        assert_eq!(output[..19], [1_023 * 256 * 40_800; 19]);
+        assert_eq!(output[19..], [563 * 256 * 40_800, 0, 7]);
+    });
 }
 
 /// One mm, one kg or one tonne too many returned breaks a claim on lists of calls: none is true of itself.
@@ -811,8 +864,8 @@ fn small_cells_emit() {
     both(|ledger| {
         let mut output = [0; 100];
         let answer = (ledger.forecast)(&site.words(), &mut [0; 5], &mut output);
-        assert_eq!(answer, accepted(0));
         // 1,100,000 × 4,500 / 3,000,000,000 rounded down.
+        assert_eq!(answer, total(1));
         assert_eq!(output.iter().sum::<u64>(), 1);
     });
 }

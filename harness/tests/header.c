@@ -17,8 +17,9 @@ int main(void) {
     peat_account cell = peat_statement(listing, 6, book, 5, 0);
     printf("replan %u, withdraw %u\n", replanned.number, withdrawn.number);
     printf("statement %u %zu: %u %u %u %u %u %u %d\n", cell.number, cell.place, cell.entered, cell.remaining, cell.oxidised, cell.burned, cell.kg, cell.plan_year, cell.withdrawn);
-    peat_answer forecast = peat_forecast(listing, 6, book, 5, output, 2);
-    printf("forecast %u: %llu %llu\n", forecast.number, (unsigned long long)output[0], (unsigned long long)output[1]);
+    peat_total forecast = peat_forecast(listing, 6, book, 5, output, 2), short_output = peat_forecast(listing, 6, book, 5, output, 1);
+    printf("forecast %u %zu %llu: %llu %llu\n", forecast.number, forecast.place, (unsigned long long)forecast.total, (unsigned long long)output[0], (unsigned long long)output[1]);
+    printf("forecast %u %zu %llu\n", short_output.number, short_output.place, (unsigned long long)short_output.total);
     peat_answer core = peat_core(0.7f), levels = peat_levels(12.5f, 10.25f), missing = peat_missing();
     printf("depths %u %u, missing %u\n", core.value, levels.value, missing.number);
     const uint32_t first_width[] = {150}, second_width[] = {1}, first_stock[] = {2000}, second_stock[] = {3000};

@@ -9,7 +9,8 @@ open 6 4 0
 0 0 0: D000002D E000012C F00A9114, 553 t
 replan 12, withdraw 0
 statement 0 0: 2000 1655 45 300 692500 1 1
-forecast 0: 692500 82500
+forecast 0 0 775000: 692500 82500
+forecast 15 1 0
 depths 699 2250, missing 18
 discount 8499
 logged 0 0: 100 1, without year 0 21

@@ -2,7 +2,7 @@
 use harness::generate::{Call, Random};
 use harness::met::Met;
 use harness::site::{part, Site, BOOK_CELL_WORDS, BOOK_HEAD};
-use harness::{Account, Ledger, PROVED, REFERENCE};
+use harness::{Account, Ledger, Total, PROVED, REFERENCE};
 
 /// What the caller lends, with whatever is in it.
 #[derive(Clone, Debug, PartialEq)]
@@ -23,8 +23,35 @@ pub fn lend(random: &mut Random, site: &Site) -> Lent {
     }
 }
 
-/// A statement's account, or another call's answer in the same form.
-fn run(ledger: &Ledger, call: Call, lent: &mut Lent) -> Account {
+/// What any call answers, in one form: of a statement its account, of a forecast its total, of another call its value.
+#[derive(Clone, Debug, Default, PartialEq)]
+pub struct Answered {
+    pub number: u32,
+    pub place: usize,
+    pub value: u32,
+    pub total: u64,
+    pub account: Account,
+}
+
+fn stated(account: Account) -> Answered {
+    Answered {
+        number: account.number,
+        place: account.place,
+        account,
+        ..Answered::default()
+    }
+}
+
+fn totalled(answer: Total) -> Answered {
+    Answered {
+        number: answer.number,
+        place: answer.place,
+        total: answer.total,
+        ..Answered::default()
+    }
+}
+
+fn run(ledger: &Ledger, call: Call, lent: &mut Lent) -> Answered {
     let (listing, book) = (&lent.listing[..], &mut lent.book[..]);
     let answer = match call {
         Call::Open => (ledger.open)(listing, book),
@@ -32,14 +59,16 @@ fn run(ledger: &Ledger, call: Call, lent: &mut Lent) -> Account {
         Call::Replan { cell, year } => (ledger.replan)(listing, book, cell, year),
         Call::Withdraw { cell } => (ledger.withdraw)(listing, book, cell),
         Call::Issue => (ledger.issue)(listing, book),
-        Call::Statement { cell } => return (ledger.statement)(listing, book, cell),
-        Call::Forecast { output } => (ledger.forecast)(listing, book, &mut lent.output[..output]),
+        Call::Statement { cell } => return stated((ledger.statement)(listing, book, cell)),
+        Call::Forecast { output } => {
+            return totalled((ledger.forecast)(listing, book, &mut lent.output[..output]))
+        }
     };
-    Account {
+    Answered {
         number: answer.number,
         place: answer.place,
-        entered: answer.value,
-        ..Account::default()
+        value: answer.value,
+        ..Answered::default()
     }
 }
 
@@ -49,7 +78,7 @@ pub fn reference_number(call: Call, lent: &Lent) -> u32 {
 }
 
 /// Runs a call on both, and counts and returns what they agree on.
-pub fn agree(met: &mut Met, call: Call, lent: &mut Lent) -> Account {
+pub fn agree(met: &mut Met, call: Call, lent: &mut Lent) -> Answered {
     let before = lent.clone();
     let mut reference_lent = lent.clone();
     let proved = run(&PROVED, call, lent);

@@ -284,7 +284,7 @@ fn list(random: &mut Random, met: &mut Met) {
         let call = generate::call(random, &site, tally.history.closings());
         let answer = agree(met, call, &mut lent);
         if answer.number == 0 {
-            tally.accepted(met, call, answer.entered, &lent.lines);
+            tally.accepted(met, call, answer.value, &lent.lines);
         } else {
             met.count("refused in a list", &answer.number.to_string());
         }
