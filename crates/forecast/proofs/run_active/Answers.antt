@@ -34,7 +34,9 @@ pub overflow_add-lost-2 : goal.overflow_add-lost-2
 overflow_add-lost-2 c = let f = fit (goal.at.overflow_add-lost-2 c).After-mm_of-m in record { fits = omega (arith, f.lost, f.cell_valid.entered) }
 
 pub emission-kg-requires : goal.emission-kg-requires
-emission-kg-requires c = rw c.args.listing.now.is_head (fit (goal.at.emission-kg-requires c).After-mm_of-m)
+emission-kg-requires c =
+    let f = fit (goal.at.emission-kg-requires c).After-mm_of-m in
+    rw c.args.listing.now.is_head (record { head_valid = f.head_valid; cell_valid = f.cell_valid; lost = omega (arith, f.lost) })
 
 pub returns : goal.returns
 returns c =

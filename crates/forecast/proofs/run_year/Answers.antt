@@ -25,11 +25,11 @@ read n d = n.loop-i.invariant.stepped.left n.loop-i.i d (le_refl n.loop-i.i) (th
 
 pub slice_copy_out-run_cell : goal.slice_copy_out-run_cell
 slice_copy_out-run_cell c =
-    iteration_within c.args.listing.now.accepted c.requires.1 c.loop-i.invariant (there (goal.at.slice_copy_out-run_cell c).In-loop-i)
+    omega (arith, iteration_within c.args.listing.now.accepted c.requires.1 c.loop-i.invariant (there (goal.at.slice_copy_out-run_cell c).In-loop-i))
 
 pub bounds-all-i : goal.bounds-all-i
 bounds-all-i c =
-    iteration_within c.args.listing.now.accepted c.requires.1 c.loop-i.invariant (there (goal.at.bounds-all-i c).In-loop-i)
+    omega (arith, iteration_within c.args.listing.now.accepted c.requires.1 c.loop-i.invariant (there (goal.at.bounds-all-i c).In-loop-i))
 
 pub run_cell-c-requires : goal.run_cell-c-requires
 run_cell-c-requires c =
