@@ -78,7 +78,7 @@ typedef struct {
     bool withdrawn;
 } peat_account;
 
-/* What a forecast answers: kg CO2e to date of all cells after the last year, 0 where it is refused. */
+/* What a forecast answers. */
 typedef struct {
     uint32_t number;
     size_t place;

@@ -716,7 +716,7 @@ fn largest() {
         let mut scratch = vec![0; book.len()];
         let answer = (ledger.forecast)(&listing, &mut scratch, &mut output);
         assert_eq!(answer, total(output.iter().sum()));
-        (returned, book, scratch, output)
+        (returned, book, scratch, output, answer)
     });
     assert!(results[0] == results[1]);
     // A 701st term cannot rise.
@@ -752,6 +752,49 @@ fn greatest_line() {
             assert_eq!(lines[2], 15 << 28 | kg);
         });
     }
+}
+
+/// Three cells of the worked listing's kind, converted in year 1, in year 2 and never: a cell's first year emits 692,500
+/// kg and each later one 82,500, as worked in document 01. The numbers so far are the statements' kg to date.
+#[test]
+fn forecast_of_three_cells() {
+    let row = |burning| Row {
+        drainage: 70,
+        oxidation: 45,
+        burning,
+    };
+    let cell = |conversion| Cell {
+        stratum: 0,
+        conversion,
+        entered: 2_000,
+        area: 10_000,
+        density: 500,
+    };
+    let site = Site {
+        horizon: 3,
+        char: 0,
+        buffer: 20,
+        warming: 25,
+        methane: 12,
+        site_word: None,
+        tables: vec![vec![row(340), row(0), row(0)]],
+        cells: vec![cell(1), cell(2), cell(0)],
+        terms: vec![],
+    };
+    let listing = site.words();
+    let years = [692_500, 82_500 + 692_500, 82_500 + 82_500];
+    both(|ledger| {
+        let (mut output, mut book, mut lines) = ([7; 4], [0; 11], [0; 9]);
+        let answer = (ledger.forecast)(&listing, &mut book, &mut output);
+        assert_eq!(answer, total(1_632_500));
+        assert_eq!(output, [years[0], years[1], years[2], 7]);
+        assert_eq!((ledger.open)(&listing, &mut book), accepted(0));
+        for to_date in [692_500, 1_467_500, 1_632_500] {
+            assert_eq!((ledger.close)(&listing, &mut book, &mut lines), accepted(0));
+            let kg = |cell| (ledger.statement)(&listing, &book, cell).kg;
+            assert_eq!(kg(0) + kg(1) + kg(2), to_date);
+        }
+    });
 }
 
 /// 256 cells of 20,000 mm that all burn with the greatest weight: 816,000,000 kg each, 208,896,000,000 in all. A year

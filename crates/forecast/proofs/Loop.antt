@@ -18,12 +18,12 @@ use Rattle.listing.specs.Accepted.{Accepted}
 use Rattle.fields.specs.Valid.{RowValid}
 use Rattle.fields.specs.declared.Row.{Row}
 use Rattle.fields.specs.declared.Cell.{Cell}
-use Rattle.year.specs.Year.{inactive, age, mm_of, emission, loss_of, year_loss, after_loss}
+use Rattle.year.specs.Year.{inactive, age, mm_of, year_mm, emission, year_loss, after_loss}
 use Rattle.year.specs.Limits.{WithinLimits}
 use Rattle.year.specs.declared.LostMm.{LostMm}
 use Rattle.year.specs.declared.Loss.{Loss}
 use Rattle.year.specs.declared.Entry.{Entry}
-use Rattle.year.proofs.Laws.{after_loss_none, emission_none, loss_inactive, loss_active}
+use Rattle.year.proofs.Laws.{emission_none, mm_active}
 use Rattle.book.specs.Current.{current, entry_at, held_at, Fitted}
 use Rattle.book.specs.Layout.{Sized, held_words}
 use Rattle.book.specs.AcceptedBook.{Storable}
@@ -33,7 +33,7 @@ use Rattle.closing.proofs.Closable.{cell_year_valid, cell_year_fit}
 use Rattle.years.specs.Years.{entries_after}
 use Rattle.years.proofs.After.{after_plan, after_next, after_valid, after_storable}
 use Rattle.forecast.specs.declared.CellToDate.{CellToDate}
-use Rattle.forecast.specs.Running.{entry_of, to_date, cell_after, total_after, output_of, CellsAfter}
+use Rattle.forecast.specs.Running.{entry_to_date, cell_to_date, cell_after, total_after, output_of, CellsAfter}
 use Rattle.forecast.proofs.Running.{total_none, total_grows, total_fits}
 
 -- ---- a list that a loop goes through, element after element: the first i of n are g's, and the others f's still
@@ -93,45 +93,48 @@ opened_is l i c_is =
     rw c_is (ap (λ (k : ℕ). record { cell = cell l i; lost = record { oxidised = 0; burned = 0 }; kg = k }) (sym (emission_none (head l) (cell l i))))
 
 -- its entry is that of the cell's own years
-pub entry_after : (l : List ℕ) (t i : ℕ) → entry_of (cell_after l t i) ≡ entries_after l t i
+pub entry_after : (l : List ℕ) (t i : ℕ) → entry_to_date (cell_after l t i) ≡ entries_after l t i
 entry_after l t i =
     let own = after_plan l i t in
     ap₂ (λ (w : Bool) (p : ℕ). record { withdrawn = w; plan = p; oxidised = (entries_after l t i).oxidised; burned = (entries_after l t i).burned }) (sym own.0) (sym own.1)
 
--- b is a cell before the year t: inactive, it stays as it was
-module _ (l : List ℕ) (b : CellToDate) (t : ℕ) where
+-- the mm of a cell's year t: where it is active, r is the row that was read
+module _ {l : List ℕ} (a : Accepted l) {c : Cell} {e : Entry} {t : ℕ} (g : CellYear l c e t) {r : Row} (r_is : r ≡ row l c.stratum (age e.plan t)) where
+  pub active_fit : WithinLimits (head l) c e.oxidised e.burned × RowValid r
+  active_fit = (cell_year_fit a g, rw r_is (a.row_valid c.stratum (age e.plan t)))
+
+  pub active_is : inactive (head l) c e t ≡ false → {m : LostMm} → m ≡ mm_of (head l) c r e → m ≡ year_mm (head l) (row l) c e t
+  active_is q m_is = (rw r_is at m_is) ∙ sym (mm_active (head l) (row l) c e t q)
+
+-- b is a cell before the year t, and m the mm of that year
+module _ (l : List ℕ) (b : CellToDate) (t : ℕ) {m : LostMm} (m_is : m ≡ year_mm (head l) (row l) b.cell (entry_to_date b) t) where
   abbrev loss : Loss
-  loss = year_loss (head l) (row l) b.cell (entry_of b) t
+  loss = year_loss (head l) (row l) b.cell (entry_to_date b) t
 
-  pub inactive_is : b ≡ to_date (head l) b.cell (entry_of b) → inactive (head l) b.cell (entry_of b) t ≡ true → b ≡ to_date (head l) b.cell (after_loss (entry_of b) loss)
-  inactive_is b_is q =
+  then_is : record { withdrawn = false; plan = b.cell.conversion; oxidised = b.lost.oxidised + m.oxidised; burned = b.lost.burned + m.burned }
+      ≡ after_loss (entry_to_date b) loss
+  unfolding year_loss
+  then_is = rw m_is refl
+
+  pub then_fit : Accepted l → CellYear l b.cell (entry_to_date b) t → WithinLimits (head l) b.cell (b.lost.oxidised + m.oxidised) (b.lost.burned + m.burned)
+  then_fit a g =
+      let lost = (cell_year_valid a g).lost in
+      record { head_valid = a.head_valid; cell_valid = g.cell_valid; lost = omega (arith, ap (λ (e : Entry). e.oxidised + e.burned) then_is, lost) }
+
+  -- nothing was lost: the cell stays as it was
+  pub nothing_is : b ≡ cell_to_date (head l) b.cell (entry_to_date b) → m.oxidised + m.burned ≡ 0 → b ≡ cell_to_date (head l) b.cell (after_loss (entry_to_date b) loss)
+  nothing_is b_is none =
+      let o : b.lost.oxidised ≡ b.lost.oxidised + m.oxidised = omega (arith, none) in
+      let u : b.lost.burned ≡ b.lost.burned + m.burned = omega (arith, none) in
       b_is
-      ∙ ap (to_date (head l) b.cell)
-      (sym (ap (after_loss (entry_of b)) (loss_inactive (head l) (row l) b.cell (entry_of b) t q) ∙ after_loss_none (entry_of b)))
+      ∙ ap (cell_to_date (head l) b.cell)
+      (ap₂ (λ (x y : ℕ). record { withdrawn = false; plan = b.cell.conversion; oxidised = x; burned = y }) o u ∙ then_is)
 
-  -- active: r is the row that was read, and m the mm that were answered
-  module _ (a : Accepted l) (g : CellYear l b.cell (entry_of b) t) (q : inactive (head l) b.cell (entry_of b) t ≡ false) {r : Row}
-      (r_is : r ≡ row l b.cell.stratum (age b.cell.conversion t)) where
-    pub active_fit : WithinLimits (head l) b.cell (entry_of b).oxidised (entry_of b).burned × RowValid r
-    active_fit = (cell_year_fit a g, rw r_is (a.row_valid b.cell.stratum (age b.cell.conversion t)))
-
-    module _ {m : LostMm} (m_is : m ≡ mm_of (head l) b.cell r (entry_of b)) where
-      then_is : record { withdrawn = false; plan = b.cell.conversion; oxidised = b.lost.oxidised + m.oxidised; burned = b.lost.burned + m.burned }
-          ≡ after_loss (entry_of b) loss
-      unfolding loss_of
-      then_is =
-          rw (m_is, r_is) (ap (after_loss (entry_of b)) (sym (loss_active (head l) (row l) b.cell (entry_of b) t q)))
-
-      pub then_fit : WithinLimits (head l) b.cell (b.lost.oxidised + m.oxidised) (b.lost.burned + m.burned)
-      then_fit =
-          let total : (b.lost.oxidised + m.oxidised) + (b.lost.burned + m.burned) ≤ b.cell.entered =
-          omega (arith, ap (λ (e : Entry). e.oxidised + e.burned) then_is, (cell_year_valid a g).lost) in
-          record { head_valid = a.head_valid; cell_valid = g.cell_valid; lost = total }
-
-      pub active_is : {kg : ℕ} → kg ≡ emission (head l) b.cell (b.lost.oxidised + m.oxidised) (b.lost.burned + m.burned) →
-          record { cell = b.cell; lost = record { oxidised = b.lost.oxidised + m.oxidised; burned = b.lost.burned + m.burned }; kg = kg }
-          ≡ to_date (head l) b.cell (after_loss (entry_of b) loss)
-      active_is kg_is = rw kg_is (ap (to_date (head l) b.cell) then_is)
+  -- something was: its kg to date are the emission of its mm to date then
+  pub lost_is : {kg : ℕ} → kg ≡ emission (head l) b.cell (b.lost.oxidised + m.oxidised) (b.lost.burned + m.burned) →
+      record { cell = b.cell; lost = record { oxidised = b.lost.oxidised + m.oxidised; burned = b.lost.burned + m.burned }; kg = kg }
+      ≡ cell_to_date (head l) b.cell (after_loss (entry_to_date b) loss)
+  lost_is kg_is = rw kg_is (ap (cell_to_date (head l) b.cell) then_is)
 
 -- ---- a year: i cells are worked out, and `total` is what they come to
 
@@ -149,13 +152,13 @@ module _ {l : List ℕ} (a : Accepted l) {t : ℕ} (in_time : t < horizon l) whe
     iteration_within = omega (arith, lt, r.stepped.enough)
 
     module _ {b : CellToDate} (b_is : b ≡ cell_after l t i) where
-      pub iteration_cell : CellYear l b.cell (entry_of b) (t + 1) × (b ≡ to_date (head l) b.cell (entry_of b))
+      pub iteration_cell : CellYear l b.cell (entry_to_date b) (t + 1) × (b ≡ cell_to_date (head l) b.cell (entry_to_date b))
       iteration_cell =
           rw (b_is, entry_after l t i) (record { cell_valid = a.cell_valid i lt; entry_valid = after_valid a i lt t; in_time = (omega arith, omega (arith, in_time)) }, refl)
 
-      module _ {c : CellToDate} (c_is : c ≡ to_date (head l) b.cell (after_loss (entry_of b) (year_loss (head l) (row l) b.cell (entry_of b) (t + 1)))) where
+      module _ {c : CellToDate} (c_is : c ≡ cell_to_date (head l) b.cell (after_loss (entry_to_date b) (year_loss (head l) (row l) b.cell (entry_to_date b) (t + 1)))) where
         answered : c ≡ cell_after l (t + 1) i
-        answered = (rw (b_is, entry_after l t i) at c_is) ∙ ap (to_date (head l) (cell l i)) (after_next l i t)
+        answered = (rw (b_is, entry_after l t i) at c_is) ∙ ap (cell_to_date (head l) (cell l i)) (after_next l i t)
 
         total_then : total + c.kg ≡ sum_below (λ k. (cell_after l (t + 1) k).kg) (i + 1)
         total_then = sum_next (λ k. (cell_after l (t + 1) k).kg) i r.total_is (ap (λ (x : CellToDate). x.kg) answered)
@@ -211,7 +214,7 @@ module _ {l b : List ℕ} (fitted : Fitted l b) where
 
   -- the iteration of cell i: y is the book as it is now, a is where its words begin, and c the cell that was read
   module _ {i : ℕ} {y : List ℕ} (r : Filling current.entry b current.head held (cells l) i y) (lt : i < cells l) {a : ℕ} (here : a ≡ entry_at i)
-      {c : CellToDate} (c_is : c ≡ cell_after l (horizon l) i) {e : Entry} (e_is : e ≡ entry_of c) where
+      {c : CellToDate} (c_is : c ≡ cell_after l (horizon l) i) {e : Entry} (e_is : e ≡ entry_to_date c) where
     held_entry : e ≡ entries_after l (horizon l) i
     held_entry = (rw c_is at e_is) ∙ entry_after l (horizon l) i
 

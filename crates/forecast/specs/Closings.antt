@@ -31,7 +31,7 @@ EveryYear = (l b x : List ℕ) → (forecast_effect l b x).answer.done ≡ true 
 abbrev pub numbers_sum : List ℕ → ℕ → ℕ
 numbers_sum x t = sum_below (λ k. get_or x k 0) t
 
--- document 02, job 4: after each year t of an accepted forecast its numbers so far add up to the kg to date of all cells in the book then, and
+-- document 02, "A faster forecast": after each year t of an accepted forecast its numbers so far add up to the kg to date of all cells in the book then, and
 -- the numbers of all years to the answer
 pub record AddedUp (l b x : List ℕ) : Type 0 where
   pub so_far : (t : ℕ) → t ≤ horizon l → numbers_sum (forecast_effect l b x).output t ≡ total_kg l (after_closings l (open_effect l b).book t)

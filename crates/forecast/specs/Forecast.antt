@@ -1,5 +1,5 @@
 -- Document 01, "Forecast, readings, discount, program": the forecast takes a listing l, a scratch book b and an output x. It opens the scratch
--- book, closes every year, and writes each year's kg over all cells. Document 02, job 4: it answers the last total.
+-- book, closes every year, and writes each year's kg over all cells. Document 02, "A faster forecast": it answers the last total.
 use Rattle.std.specs.Prelude.{ℕ, List, [], ◌∷◌, leb, length}
 use Rattle.words.specs.Answers.{Answer, accepted, need, after}
 use Rattle.words.specs.Blocks.{filled}
@@ -27,7 +27,7 @@ output_after l b x = filled 1 x 0 (λ t. year_kg l (after_closings l b t) ∷ []
 unfoldable pub output_checked : List ℕ → ℕ → Answer
 output_checked l capacity = need (leb (horizon l) capacity) output_short capacity (accepted 0)
 
--- after 1 to 6
+-- the tests: 1 to 6, then 15
 unfoldable pub forecast_checked : List ℕ → List ℕ → ℕ → Answer
 forecast_checked l b capacity = after (fitted l b) (output_checked l capacity)
 
@@ -35,7 +35,7 @@ forecast_checked l b capacity = after (fitted l b) (output_checked l capacity)
 unfoldable pub total_kg : List ℕ → List ℕ → ℕ
 total_kg l b = sum_below (kg_to_date l b) (cells l)
 
--- refused by 1 to 6 and 15, and otherwise the last total: that of the book after every year
+-- where they are passed, the last total: that of the book after every year
 unfoldable pub forecast_answer : List ℕ → List ℕ → ℕ → Answer
 forecast_answer l b capacity = after (forecast_checked l b capacity) (accepted (total_kg l (closed_book l (open_book l b))))
 

@@ -1,17 +1,17 @@
 // The forecast: a listing's years on a scratch book, without replanning or withdrawal, year after year.
 #![tactic(auto)]
 
-ghost use Rattle.std.specs.Prelude.{◌≡◌, false, ◌+◌, ◌<◌, ◌≤◌, length, IfOk};
+ghost use Rattle.std.specs.Prelude.{◌≡◌, ◌+◌, ◌<◌, ◌≤◌, length, IfOk};
 ghost use Rattle.words.specs.Answers.{outcome, amount};
 ghost use Rattle.words.specs.Blocks.{filled};
 ghost use Rattle.words.specs.Effect.{effect};
 ghost use Rattle.listing.specs.Layout.{head, cells, horizon, row};
-ghost use Rattle.year.specs.Year.{inactive, year_loss, after_loss};
+ghost use Rattle.year.specs.Year.{year_mm, year_loss, after_loss};
 ghost use Rattle.book.specs.Current.{current, held_at, new_book, Fitted};
 ghost use Rattle.closing.specs.Closable.{CellYear};
 ghost use Rattle.years.specs.Years.{entries_after};
 ghost use Rattle.forecast.specs.Forecast.{output_checked, forecast_checked, forecast_effect};
-ghost use Rattle.forecast.specs.Running.{entry_of, to_date, cell_after, total_after, output_of, CellsAfter, Ready};
+ghost use Rattle.forecast.specs.Running.{entry_to_date, cell_to_date, cell_after, total_after, output_of, CellsAfter, Ready};
 
 use book::BOOK;
 use fields::{Cell, MOST_CELLS};
@@ -20,7 +20,7 @@ use words::{Reason, Refusal, need};
 use year::{Entry, LostMm};
 
 // A cell as it is carried from one year to the next: its words in the listing, which are read once, its mm
-// to date, and its kg to date, so that a cell that loses nothing costs no emission.
+// to date, and its kg to date, so that a cell that loses nothing in a year costs no emission.
 #[derive(Clone, Copy, Debug, PartialEq, Eq)]
 struct CellToDate {
     cell: Cell,
@@ -77,26 +77,43 @@ fn opened_cells(listing: &Listing<'_>) -> [CellToDate; MOST_CELLS as usize]
 }
 
 // The entry of a cell that was only closed: no mark, and the plan year of the listing.
-fn entry_of(c: CellToDate) -> Entry
-    ensures { result ≡ entry_of c }
+fn entry_to_date(d: CellToDate) -> Entry
+    ensures { result ≡ entry_to_date d }
 {
     Entry {
-        oxidised: c.lost.oxidised,
-        burned: c.lost.burned,
-        ..year::opened(c.cell.conversion)
+        oxidised: d.lost.oxidised,
+        burned: d.lost.burned,
+        ..year::opened(d.cell.conversion)
     }
 }
 
-// An active cell after `year`: the year's mm are added, and its kg to date are their emission.
-fn run_active(listing: &Listing<'_>, before: CellToDate, year: u32) -> CellToDate
-    requires { CellYear listing.now.words.now before.cell (entry_of before) year
-        × (inactive (head listing.now.words.now) before.cell (entry_of before) year ≡ false) }
-    ensures { result ≡ to_date (head listing.now.words.now) before.cell
-        (after_loss (entry_of before) (year_loss (head listing.now.words.now) (row listing.now.words.now) before.cell (entry_of before) year)) }
+// The mm that a cell loses in `year`, none where it is inactive.
+fn year_mm(listing: &Listing<'_>, c: Cell, e: Entry, year: u32) -> LostMm
+    requires { CellYear listing.now.words.now c e year }
+    ensures { result ≡ year_mm (head listing.now.words.now) (row listing.now.words.now) c e year }
 {
-    let e = entry_of(before);
-    let r = closing::active_row(listing, before.cell, e, year);
-    let m = year::mm_of(listing.figures, before.cell, r, e);
+    if year::inactive(listing.figures, c, e, year) {
+        return LostMm {
+            oxidised: 0,
+            burned: 0,
+        };
+    }
+    let r = closing::active_row(listing, c, e, year);
+    year::mm_of(listing.figures, c, r, e)
+}
+
+// A cell after `year`: the year's mm are added, and its kg to date are their emission; where nothing is
+// lost, it is as it was.
+fn run_cell(listing: &Listing<'_>, before: CellToDate, year: u32) -> CellToDate
+    requires { CellYear listing.now.words.now before.cell (entry_to_date before) year
+        × (before ≡ cell_to_date (head listing.now.words.now) before.cell (entry_to_date before)) }
+    ensures { result ≡ cell_to_date (head listing.now.words.now) before.cell
+        (after_loss (entry_to_date before) (year_loss (head listing.now.words.now) (row listing.now.words.now) before.cell (entry_to_date before) year)) }
+{
+    let m = year_mm(listing, before.cell, entry_to_date(before), year);
+    if m.oxidised + m.burned == 0 {
+        return before;
+    }
     let lost = LostMm {
         oxidised: before.lost.oxidised + m.oxidised,
         burned: before.lost.burned + m.burned,
@@ -105,30 +122,17 @@ fn run_active(listing: &Listing<'_>, before: CellToDate, year: u32) -> CellToDat
     CellToDate { lost, kg, ..before }
 }
 
-// A cell after `year`: as it was, where it is inactive.
-fn run_cell(listing: &Listing<'_>, before: CellToDate, year: u32) -> CellToDate
-    requires { CellYear listing.now.words.now before.cell (entry_of before) year
-        × (before ≡ to_date (head listing.now.words.now) before.cell (entry_of before)) }
-    ensures { result ≡ to_date (head listing.now.words.now) before.cell
-        (after_loss (entry_of before) (year_loss (head listing.now.words.now) (row listing.now.words.now) before.cell (entry_of before) year)) }
-{
-    if year::inactive(listing.figures, before.cell, entry_of(before), year) {
-        return before;
-    }
-    run_active(listing, before, year)
-}
-
-// The year after the first `closed`, over all cells: answers their kg to date after it, added up once.
-fn run_year(listing: &Listing<'_>, all: &mut [CellToDate], closed: u32) -> u64
-    requires { CellsAfter listing.now.words.now closed all.old × (closed < horizon listing.now.words.now) }
-    ensures value { result ≡ total_after listing.now.words.now (closed + 1) }
-    ensures new_cells { CellsAfter listing.now.words.now (closed + 1) all.new }
+// The year after `closed_years` years, over all cells: answers their kg to date after it, added up once.
+fn run_year(listing: &Listing<'_>, all: &mut [CellToDate], closed_years: u32) -> u64
+    requires { CellsAfter listing.now.words.now closed_years all.old × (closed_years < horizon listing.now.words.now) }
+    ensures value { result ≡ total_after listing.now.words.now (closed_years + 1) }
+    ensures new_cells { CellsAfter listing.now.words.now (closed_years + 1) all.new }
 {
     let mut total: u64 = 0;
     for i in 0..listing.figures.cells as usize {
-        let c = run_cell(listing, all[i], closed + 1);
-        all[i] = c;
-        total += u64::from(c.kg);
+        let after = run_cell(listing, all[i], closed_years + 1);
+        all[i] = after;
+        total += u64::from(after.kg);
     }
     total
 }
@@ -142,15 +146,15 @@ fn run_years(listing: &Listing<'_>, all: &mut [CellToDate], output: &mut [u64]) 
     ensures new_output { output.new ≡ output_of listing.now.words.now output.old }
 {
     let mut total: u64 = 0;
-    for closed in 0..listing.figures.horizon {
-        let now = run_year(listing, all, closed);
-        output[closed as usize] = now - total;
+    for t in 0..listing.figures.horizon {
+        let now = run_year(listing, all, t);
+        output[t as usize] = now - total;
         total = now;
     }
     total
 }
 
-// Writes the cells' words. A walk as that of `closing::close_cells`.
+// Writes the cells' words. A walk as that of `opening::open_cells`.
 fn put_cells(listing: &Listing<'_>, book: &mut [u32], all: &[CellToDate])
     requires { Fitted listing.now.words.now book.old × CellsAfter listing.now.words.now (horizon listing.now.words.now) all.now }
     ensures { book.new ≡ filled current.entry book.old current.head
@@ -159,11 +163,11 @@ fn put_cells(listing: &Listing<'_>, book: &mut [u32], all: &[CellToDate])
     for i in 0..listing.figures.cells as usize {
         let a = book::entry_at(BOOK, i);
         let e = a + BOOK.entry;
-        book::put_entry(&mut book[a..e], entry_of(all[i]));
+        book::put_entry(&mut book[a..e], entry_to_date(all[i]));
     }
 }
 
-// Writes each year's kg, and the scratch book as it is after every year.
+// Writes each year's kg, and the scratch book as it is after the last; answers the last total.
 fn write_years(listing: &Listing<'_>, book: &mut [u32], output: &mut [u64]) -> u64
     requires { Ready listing.now.words.now book.old (length output.old) }
     ensures value { result ≡ total_after listing.now.words.now (horizon listing.now.words.now) }

@@ -141,8 +141,8 @@ SameTotals =
 
 -- ---- the forecast
 
--- what a forecast left on l, with an output x, and on l', with an output x': the same answer; where it is accepted, the same kg of each
--- year, and the scratch book in that order; beyond the horizon each output is as it was
+-- what a forecast left on l, with an output x, and on l', with an output x': the same answer, and so the same total; where it is accepted,
+-- the same kg of each year, and the scratch book in that order; beyond the horizon each output is as it was
 pub record SameForecast {n : ℕ} (o : Order n) (l x x' : List ℕ) (m m' : Effect) : Type 0 where
   pub answer_is : m'.answer ≡ m.answer
   pub years_are : m.answer.done ≡ true → SameWords (horizon l) m'.output 0 m.output 0

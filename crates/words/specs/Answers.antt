@@ -26,7 +26,7 @@ answer_of value (Err r) = refused (number_of r.reason) r.place
 abbrev pub outcome : {A : Type 0} → Result A Refusal → Answer
 outcome r = answer_of (λ _. 0) r
 
--- and one that is a number: tonnes, mm or ten-thousandths
+-- and one that is a number: tonnes, kg, mm or ten-thousandths
 abbrev pub amount : Result ℕ Refusal → Answer
 amount r = answer_of (λ v. v) r
 

@@ -152,7 +152,7 @@ pub fn mm_of(h: Head, c: Cell, r: Row, e: Entry) -> LostMm
     LostMm { oxidised, burned }
 }
 
-// What it loses in all, where its kg to date is `before`, as a caller may have it from the year before.
+// What it loses in all, where its kg to date is `before`.
 #[tactic(auto, using(crate::proofs::Laws::lost_within, crate::proofs::Laws::emission_grows))]
 pub fn loss_of(h: Head, c: Cell, r: Row, e: Entry, before: u32) -> Loss
     requires { WithinLimits h c e.oxidised e.burned × RowValid r × (before ≡ kg_of h c e) }

@@ -2,7 +2,7 @@
 use crate::lent::{agree, lend, open, Lent};
 use harness::generate::{self, Call, Random};
 use harness::met::Met;
-use harness::site::LINE_WORDS;
+use harness::site::{Site, LINE_WORDS};
 use harness::PROVED;
 
 /// Every call on any accepted book.
@@ -42,7 +42,7 @@ pub fn forecasts(seed: u64, met: &mut Met) {
             assert_eq!(answer.total, 0);
             continue;
         }
-        count_numbers(met, &lent.output[..horizon], answer.total);
+        count_forecast(met, &site, output, &lent.output[..horizon], answer.total);
         assert_eq!(lent.output[horizon..], beyond[horizon..]);
         let mut closed = lend(random, &site);
         open(met, &site, &mut closed);
@@ -62,22 +62,36 @@ pub fn forecasts(seed: u64, met: &mut Met) {
     }
 }
 
-/// What an accepted forecast wrote and answered.
-fn count_numbers(met: &mut Met, numbers: &[u64], total: u64) {
-    let row = match total {
-        0 => "total 0",
-        1..=0xFFFF_FFFF => "total above 0 that fits 32 bits",
-        _ => "total that does not",
+/// What an accepted forecast is made of, wrote and answered.
+fn count_forecast(met: &mut Met, site: &Site, output: usize, numbers: &[u64], total: u64) {
+    let mut count = |is: bool, row| {
+        if is {
+            met.count("accepted forecast", row);
+        }
     };
-    met.count("accepted forecast", row);
-    let first = numbers.iter().position(|&kg| kg > 0);
-    if first.is_some_and(|first| first > 0) {
-        met.count(
-            "accepted forecast",
-            "nothing in the first year, something later",
-        );
-    }
-    if first.is_some_and(|first| numbers[first..].contains(&0)) {
-        met.count("accepted forecast", "something in a year, nothing later");
-    }
+    count(site.horizon == 1, "of 1 year");
+    count(site.horizon == 100, "of 100 years");
+    count(site.cells.len() == 1, "of 1 cell");
+    count(site.cells.len() == 256, "of 256 cells");
+    let never = site.cells.iter().all(|cell| cell.conversion == 0);
+    count(never, "with no cell converted");
+    count(output == numbers.len(), "output as long as the horizon");
+    count(output > numbers.len(), "output longer");
+    count(total == 0, "total 0");
+    let small = u32::try_from(total).is_ok();
+    count(total > 0 && small, "total above 0 that fits 32 bits");
+    count(!small, "total that does not");
+    let Some(first) = numbers.iter().position(|&kg| kg > 0) else {
+        return;
+    };
+    let later = &numbers[first..];
+    count(first > 0, "nothing in the first year, something later");
+    count(
+        later.contains(&0),
+        "nothing in a year after one with something",
+    );
+    count(
+        later.last() == Some(&0),
+        "nothing any more after a year with something",
+    );
 }

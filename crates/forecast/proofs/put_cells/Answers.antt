@@ -24,9 +24,9 @@ there n = omega (arith, listing_cells n.args.listing.now, n.loop-i-test.true)
 pub put_entry-requires : goal.put_entry-requires
 put_entry-requires c =
     let lt = there (goal.at.put_entry-requires c).In-loop-i in
-    put_storable c.requires.0 c.loop-i.invariant lt c.entry_at-a.ensures (c.requires.1.each _ _ lt) c.entry_of.ensures
+    put_storable c.requires.0 c.loop-i.invariant lt c.entry_at-a.ensures (c.requires.1.each _ _ lt) c.entry_to_date.ensures
 
 pub loop-i-preserved : goal.loop-i-preserved
 loop-i-preserved c =
     let lt = there (goal.at.loop-i-preserved c).In-loop-i in
-    put_next c.requires.0 c.loop-i.invariant lt c.entry_at-a.ensures (c.requires.1.each _ _ lt) c.entry_of.ensures c.put_entry.ensures
+    put_next c.requires.0 c.loop-i.invariant lt c.entry_at-a.ensures (c.requires.1.each _ _ lt) c.entry_to_date.ensures c.put_entry.ensures

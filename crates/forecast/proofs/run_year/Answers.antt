@@ -20,7 +20,7 @@ there : (n : In-loop-i) → n.loop-i.i < cells n.args.listing.now.words.now
 there n = omega (arith, listing_cells n.args.listing.now, n.loop-i-test.true)
 
 -- the cell that was read
-read : (n : In-loop-i) → (d : CellToDate) → get_or n.loop-i.all n.loop-i.i d ≡ cell_after n.args.listing.now.words.now n.args.closed n.loop-i.i
+read : (n : In-loop-i) → (d : CellToDate) → get_or n.loop-i.all n.loop-i.i d ≡ cell_after n.args.listing.now.words.now n.args.closed_years n.loop-i.i
 read n d = n.loop-i.invariant.stepped.left n.loop-i.i d (le_refl n.loop-i.i) (there n)
 
 pub slice_copy_out-run_cell : goal.slice_copy_out-run_cell
@@ -31,20 +31,20 @@ pub bounds-all-i : goal.bounds-all-i
 bounds-all-i c =
     omega (arith, iteration_within c.args.listing.now.accepted c.requires.1 c.loop-i.invariant (there (goal.at.bounds-all-i c).In-loop-i))
 
-pub run_cell-c-requires : goal.run_cell-c-requires
-run_cell-c-requires c =
-    let n = (goal.at.run_cell-c-requires c).In-loop-i in
+pub run_cell-after-requires : goal.run_cell-after-requires
+run_cell-after-requires c =
+    let n = (goal.at.run_cell-after-requires c).In-loop-i in
     iteration_cell c.args.listing.now.accepted c.requires.1 c.loop-i.invariant (there n) (read n _)
 
 pub overflow_add-total : goal.overflow_add-total
 overflow_add-total c =
     let n = (goal.at.overflow_add-total c).In-loop-i in
-    record { fits = rw c.from-total.ensures (iteration_fits c.args.listing.now.accepted c.requires.1 c.loop-i.invariant (there n) (read n _) c.run_cell-c.ensures) }
+    record { fits = rw c.from-total.ensures (iteration_fits c.args.listing.now.accepted c.requires.1 c.loop-i.invariant (there n) (read n _) c.run_cell-after.ensures) }
 
 pub loop-i-preserved : goal.loop-i-preserved
 loop-i-preserved c =
     let n = (goal.at.loop-i-preserved c).In-loop-i in
-    rw c.from-total.ensures (year_step c.args.listing.now.accepted c.requires.1 c.loop-i.invariant (there n) (read n _) c.run_cell-c.ensures)
+    rw c.from-total.ensures (year_step c.args.listing.now.accepted c.requires.1 c.loop-i.invariant (there n) (read n _) c.run_cell-after.ensures)
 
 pub returns-clause-value : goal.returns-clause-value
 returns-clause-value c = (year_all c.loop-i.invariant (omega (arith, c.loop-i-test.false, listing_cells c.args.listing.now))).0

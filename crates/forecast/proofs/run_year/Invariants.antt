@@ -3,4 +3,4 @@ use Rattle.forecast.proofs.Loop.{YearSoFar}
 use Rattle.forecast.proofs.run_year.Given as goal
 
 abbrev pub invariant-loop-i : goal.invariant-loop-i
-invariant-loop-i l = YearSoFar l.listing.words.now l.closed l.i l.total l.all
+invariant-loop-i l = YearSoFar l.listing.words.now l.closed_years l.i l.total l.all

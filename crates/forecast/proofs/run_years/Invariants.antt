@@ -2,5 +2,5 @@
 use Rattle.forecast.proofs.Loop.{YearsSoFar}
 use Rattle.forecast.proofs.run_years.Given as goal
 
-abbrev pub invariant-loop-closed : goal.invariant-loop-closed
-invariant-loop-closed l = YearsSoFar l.listing.words.now l.initial.output l.closed l.total l.all l.output
+abbrev pub invariant-loop-t : goal.invariant-loop-t
+invariant-loop-t l = YearsSoFar l.listing.words.now l.initial.output l.t l.total l.all l.output
