@@ -21,9 +21,8 @@ use Rattle.fields.specs.declared.Cell.{Cell}
 use Rattle.year.specs.Year.{inactive, age, mm_of, year_mm, emission, year_loss, after_loss}
 use Rattle.year.specs.Limits.{WithinLimits}
 use Rattle.year.specs.declared.LostMm.{LostMm}
-use Rattle.year.specs.declared.Loss.{Loss}
 use Rattle.year.specs.declared.Entry.{Entry}
-use Rattle.year.proofs.Laws.{emission_none, mm_active}
+use Rattle.year.proofs.Laws.{emission_none, mm_inactive, mm_active}
 use Rattle.book.specs.Current.{current, entry_at, held_at, Fitted}
 use Rattle.book.specs.Layout.{Sized, held_words}
 use Rattle.book.specs.AcceptedBook.{Storable}
@@ -33,7 +32,7 @@ use Rattle.closing.proofs.Closable.{cell_year_valid, cell_year_fit}
 use Rattle.years.specs.Years.{entries_after}
 use Rattle.years.proofs.After.{after_plan, after_next, after_valid, after_storable}
 use Rattle.forecast.specs.declared.CellToDate.{CellToDate}
-use Rattle.forecast.specs.Running.{entry_to_date, cell_to_date, cell_after, total_after, output_of, CellsAfter}
+use Rattle.forecast.specs.Running.{entry_to_date, cell_to_date, next_cell, cell_after, total_after, output_of, CellsAfter}
 use Rattle.forecast.proofs.Running.{total_none, total_grows, total_fits}
 
 -- ---- a list that a loop goes through, element after element: the first i of n are g's, and the others f's still
@@ -98,43 +97,46 @@ entry_after l t i =
     let own = after_plan l i t in
     ap₂ (λ (w : Bool) (p : ℕ). record { withdrawn = w; plan = p; oxidised = (entries_after l t i).oxidised; burned = (entries_after l t i).burned }) (sym own.0) (sym own.1)
 
--- the mm of a cell's year t: where it is active, r is the row that was read
-module _ {l : List ℕ} (a : Accepted l) {c : Cell} {e : Entry} {t : ℕ} (g : CellYear l c e t) {r : Row} (r_is : r ≡ row l c.stratum (age e.plan t)) where
-  pub active_fit : WithinLimits (head l) c e.oxidised e.burned × RowValid r
-  active_fit = (cell_year_fit a g, rw r_is (a.row_valid c.stratum (age e.plan t)))
+-- b is a cell before the year t
+module _ (l : List ℕ) (b : CellToDate) (t : ℕ) where
+  -- m are the mm of that year
+  module _ {m : LostMm} (m_is : m ≡ year_mm (head l) (row l) b.cell (entry_to_date b) t) where
+    then_is : record { withdrawn = false; plan = b.cell.conversion; oxidised = b.lost.oxidised + m.oxidised; burned = b.lost.burned + m.burned }
+        ≡ after_loss (entry_to_date b) (year_loss (head l) (row l) b.cell (entry_to_date b) t)
+    unfolding year_loss
+    then_is = rw m_is refl
 
-  pub active_is : inactive (head l) c e t ≡ false → {m : LostMm} → m ≡ mm_of (head l) c r e → m ≡ year_mm (head l) (row l) c e t
-  active_is q m_is = (rw r_is at m_is) ∙ sym (mm_active (head l) (row l) c e t q)
+    pub then_fit : Accepted l → CellYear l b.cell (entry_to_date b) t → WithinLimits (head l) b.cell (b.lost.oxidised + m.oxidised) (b.lost.burned + m.burned)
+    then_fit a g =
+        let lost = (cell_year_valid a g).lost in
+        record { head_valid = a.head_valid; cell_valid = g.cell_valid; lost = omega (arith, ap (λ (e : Entry). e.oxidised + e.burned) then_is, lost) }
 
--- b is a cell before the year t, and m the mm of that year
-module _ (l : List ℕ) (b : CellToDate) (t : ℕ) {m : LostMm} (m_is : m ≡ year_mm (head l) (row l) b.cell (entry_to_date b) t) where
-  abbrev loss : Loss
-  loss = year_loss (head l) (row l) b.cell (entry_to_date b) t
+    -- nothing was lost: the cell stays as it was
+    pub nothing_is : b ≡ cell_to_date (head l) b.cell (entry_to_date b) → m.oxidised + m.burned ≡ 0 → b ≡ next_cell l b t
+    nothing_is b_is none =
+        let o : b.lost.oxidised ≡ b.lost.oxidised + m.oxidised = omega (arith, none) in
+        let u : b.lost.burned ≡ b.lost.burned + m.burned = omega (arith, none) in
+        b_is
+        ∙ ap (cell_to_date (head l) b.cell)
+        (ap₂ (λ (x y : ℕ). record { withdrawn = false; plan = b.cell.conversion; oxidised = x; burned = y }) o u ∙ then_is)
 
-  then_is : record { withdrawn = false; plan = b.cell.conversion; oxidised = b.lost.oxidised + m.oxidised; burned = b.lost.burned + m.burned }
-      ≡ after_loss (entry_to_date b) loss
-  unfolding year_loss
-  then_is = rw m_is refl
+    -- something was: its kg to date are the emission of its mm to date then
+    pub lost_is : {kg : ℕ} → kg ≡ emission (head l) b.cell (b.lost.oxidised + m.oxidised) (b.lost.burned + m.burned) →
+        record { cell = b.cell; lost = record { oxidised = b.lost.oxidised + m.oxidised; burned = b.lost.burned + m.burned }; kg = kg } ≡ next_cell l b t
+    lost_is kg_is = rw kg_is (ap (cell_to_date (head l) b.cell) then_is)
 
-  pub then_fit : Accepted l → CellYear l b.cell (entry_to_date b) t → WithinLimits (head l) b.cell (b.lost.oxidised + m.oxidised) (b.lost.burned + m.burned)
-  then_fit a g =
-      let lost = (cell_year_valid a g).lost in
-      record { head_valid = a.head_valid; cell_valid = g.cell_valid; lost = omega (arith, ap (λ (e : Entry). e.oxidised + e.burned) then_is, lost) }
+  -- inactive
+  pub inactive_is : b ≡ cell_to_date (head l) b.cell (entry_to_date b) → inactive (head l) b.cell (entry_to_date b) t ≡ true → b ≡ next_cell l b t
+  inactive_is b_is q = nothing_is (sym (mm_inactive (head l) (row l) b.cell (entry_to_date b) t q)) b_is refl
 
-  -- nothing was lost: the cell stays as it was
-  pub nothing_is : b ≡ cell_to_date (head l) b.cell (entry_to_date b) → m.oxidised + m.burned ≡ 0 → b ≡ cell_to_date (head l) b.cell (after_loss (entry_to_date b) loss)
-  nothing_is b_is none =
-      let o : b.lost.oxidised ≡ b.lost.oxidised + m.oxidised = omega (arith, none) in
-      let u : b.lost.burned ≡ b.lost.burned + m.burned = omega (arith, none) in
-      b_is
-      ∙ ap (cell_to_date (head l) b.cell)
-      (ap₂ (λ (x y : ℕ). record { withdrawn = false; plan = b.cell.conversion; oxidised = x; burned = y }) o u ∙ then_is)
+  -- active: r is the row that was read
+  module _ (a : Accepted l) (g : CellYear l b.cell (entry_to_date b) t) {r : Row} (r_is : r ≡ row l b.cell.stratum (age b.cell.conversion t)) where
+    pub active_fit : WithinLimits (head l) b.cell (entry_to_date b).oxidised (entry_to_date b).burned × RowValid r
+    active_fit = (cell_year_fit a g, rw r_is (a.row_valid b.cell.stratum (age b.cell.conversion t)))
 
-  -- something was: its kg to date are the emission of its mm to date then
-  pub lost_is : {kg : ℕ} → kg ≡ emission (head l) b.cell (b.lost.oxidised + m.oxidised) (b.lost.burned + m.burned) →
-      record { cell = b.cell; lost = record { oxidised = b.lost.oxidised + m.oxidised; burned = b.lost.burned + m.burned }; kg = kg }
-      ≡ cell_to_date (head l) b.cell (after_loss (entry_to_date b) loss)
-  lost_is kg_is = rw kg_is (ap (cell_to_date (head l) b.cell) then_is)
+    pub active_is : inactive (head l) b.cell (entry_to_date b) t ≡ false → {m : LostMm} → m ≡ mm_of (head l) b.cell r (entry_to_date b) →
+        m ≡ year_mm (head l) (row l) b.cell (entry_to_date b) t
+    active_is q m_is = (rw r_is at m_is) ∙ sym (mm_active (head l) (row l) b.cell (entry_to_date b) t q)
 
 -- ---- a year: i cells are worked out, and `total` is what they come to
 
@@ -156,7 +158,7 @@ module _ {l : List ℕ} (a : Accepted l) {t : ℕ} (in_time : t < horizon l) whe
       iteration_cell =
           rw (b_is, entry_after l t i) (record { cell_valid = a.cell_valid i lt; entry_valid = after_valid a i lt t; in_time = (omega arith, omega (arith, in_time)) }, refl)
 
-      module _ {c : CellToDate} (c_is : c ≡ cell_to_date (head l) b.cell (after_loss (entry_to_date b) (year_loss (head l) (row l) b.cell (entry_to_date b) (t + 1)))) where
+      module _ {c : CellToDate} (c_is : c ≡ next_cell l b (t + 1)) where
         answered : c ≡ cell_after l (t + 1) i
         answered = (rw (b_is, entry_after l t i) at c_is) ∙ ap (cell_to_date (head l) (cell l i)) (after_next l i t)
 

@@ -5,8 +5,8 @@ use Rattle.words.specs.Blocks.{filled}
 use Rattle.words.specs.Sums.{sum_below}
 use Rattle.fields.specs.declared.Head.{Head}
 use Rattle.fields.specs.declared.Cell.{Cell}
-use Rattle.listing.specs.Layout.{head, cells, horizon, cell}
-use Rattle.year.specs.Year.{kg_of}
+use Rattle.listing.specs.Layout.{head, cells, horizon, row, cell}
+use Rattle.year.specs.Year.{kg_of, year_loss, after_loss}
 use Rattle.year.specs.declared.Entry.{Entry}
 use Rattle.book.specs.Current.{Fitted}
 use Rattle.years.specs.Years.{entries_after}
@@ -19,6 +19,10 @@ entry_to_date d = record { withdrawn = false; plan = d.cell.conversion; oxidised
 -- a cell with the mm to date of an entry, and the entry's kg to date
 abbrev pub cell_to_date : Head → Cell → Entry → CellToDate
 cell_to_date h c e = record { cell = c; lost = record { oxidised = e.oxidised; burned = e.burned }; kg = kg_of h c e }
+
+-- the cell after its year t, by the year rule: the mm of that year are added
+abbrev pub next_cell : List ℕ → CellToDate → ℕ → CellToDate
+next_cell l d t = cell_to_date (head l) d.cell (after_loss (entry_to_date d) (year_loss (head l) (row l) d.cell (entry_to_date d) t))
 
 -- cell i after t years
 abbrev pub cell_after : List ℕ → ℕ → ℕ → CellToDate

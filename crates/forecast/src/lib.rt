@@ -1,17 +1,17 @@
 // The forecast: a listing's years on a scratch book, without replanning or withdrawal, year after year.
 #![tactic(auto)]
 
-ghost use Rattle.std.specs.Prelude.{◌≡◌, ◌+◌, ◌<◌, ◌≤◌, length, IfOk};
+ghost use Rattle.std.specs.Prelude.{◌≡◌, false, ◌+◌, ◌<◌, ◌≤◌, length, IfOk};
 ghost use Rattle.words.specs.Answers.{outcome, amount};
 ghost use Rattle.words.specs.Blocks.{filled};
 ghost use Rattle.words.specs.Effect.{effect};
-ghost use Rattle.listing.specs.Layout.{head, cells, horizon, row};
-ghost use Rattle.year.specs.Year.{year_mm, year_loss, after_loss};
+ghost use Rattle.listing.specs.Layout.{head, cells, horizon};
+ghost use Rattle.year.specs.Year.{inactive};
 ghost use Rattle.book.specs.Current.{current, held_at, new_book, Fitted};
 ghost use Rattle.closing.specs.Closable.{CellYear};
 ghost use Rattle.years.specs.Years.{entries_after};
 ghost use Rattle.forecast.specs.Forecast.{output_checked, forecast_checked, forecast_effect};
-ghost use Rattle.forecast.specs.Running.{entry_to_date, cell_to_date, cell_after, total_after, output_of, CellsAfter, Ready};
+ghost use Rattle.forecast.specs.Running.{entry_to_date, cell_to_date, next_cell, cell_after, total_after, output_of, CellsAfter, Ready};
 
 use book::BOOK;
 use fields::{Cell, MOST_CELLS};
@@ -87,30 +87,17 @@ fn entry_to_date(d: CellToDate) -> Entry
     }
 }
 
-// The mm that a cell loses in `year`, none where it is inactive.
-fn year_mm(listing: &Listing<'_>, c: Cell, e: Entry, year: u32) -> LostMm
-    requires { CellYear listing.now.words.now c e year }
-    ensures { result ≡ year_mm (head listing.now.words.now) (row listing.now.words.now) c e year }
-{
-    if year::inactive(listing.figures, c, e, year) {
-        return LostMm {
-            oxidised: 0,
-            burned: 0,
-        };
-    }
-    let r = closing::active_row(listing, c, e, year);
-    year::mm_of(listing.figures, c, r, e)
-}
-
-// A cell after `year`: the year's mm are added, and its kg to date are their emission; where nothing is
-// lost, it is as it was.
-fn run_cell(listing: &Listing<'_>, before: CellToDate, year: u32) -> CellToDate
+// An active cell after `year`: the year's mm are added, and its kg to date are their emission. Where nothing
+// is lost, it is as it was.
+fn run_active(listing: &Listing<'_>, before: CellToDate, year: u32) -> CellToDate
     requires { CellYear listing.now.words.now before.cell (entry_to_date before) year
+        × (inactive (head listing.now.words.now) before.cell (entry_to_date before) year ≡ false)
         × (before ≡ cell_to_date (head listing.now.words.now) before.cell (entry_to_date before)) }
-    ensures { result ≡ cell_to_date (head listing.now.words.now) before.cell
-        (after_loss (entry_to_date before) (year_loss (head listing.now.words.now) (row listing.now.words.now) before.cell (entry_to_date before) year)) }
+    ensures { result ≡ next_cell listing.now.words.now before year }
 {
-    let m = year_mm(listing, before.cell, entry_to_date(before), year);
+    let e = entry_to_date(before);
+    let r = closing::active_row(listing, before.cell, e, year);
+    let m = year::mm_of(listing.figures, before.cell, r, e);
     if m.oxidised + m.burned == 0 {
         return before;
     }
@@ -120,6 +107,18 @@ fn run_cell(listing: &Listing<'_>, before: CellToDate, year: u32) -> CellToDate
     };
     let kg = year::emission(listing.figures, before.cell, lost.oxidised, lost.burned);
     CellToDate { lost, kg, ..before }
+}
+
+// A cell after `year`: as it was, where it is inactive.
+fn run_cell(listing: &Listing<'_>, before: CellToDate, year: u32) -> CellToDate
+    requires { CellYear listing.now.words.now before.cell (entry_to_date before) year
+        × (before ≡ cell_to_date (head listing.now.words.now) before.cell (entry_to_date before)) }
+    ensures { result ≡ next_cell listing.now.words.now before year }
+{
+    if year::inactive(listing.figures, before.cell, entry_to_date(before), year) {
+        return before;
+    }
+    run_active(listing, before, year)
 }
 
 // The year after `closed_years` years, over all cells: answers their kg to date after it, added up once.
