@@ -78,7 +78,10 @@ typedef struct {
     bool withdrawn;
 } peat_account;
 
-/* What a forecast answers. */
+/*
+ * What a forecast answers: kg CO2e, 0 where it is refused. Before the total was answered, peat_forecast returned a
+ * peat_answer: whoever calls it has to be compiled with this header, since a linker does not see the difference.
+ */
 typedef struct {
     uint32_t number;
     size_t place;
@@ -119,8 +122,10 @@ peat_account peat_statement(const uint32_t *listing, size_t listing_len, const u
 
 /*
  * Works out every year to the horizon, as planned in the listing. Writes each year's kg CO2e over all cells into
- * `output`, year 1 first. `book` is scratch: whatever it holds is overwritten, and it is left as closed at the horizon.
- * total: the kg CO2e to date of all cells then, which is what all years' numbers add up to. It may pass 32 bits.
+ * `output`, one number for each year, year 1 first. `book` is scratch, 2 + 3 * cells words, not the project's own:
+ * whatever it holds is overwritten, and it is left as closed at the horizon, with nothing issued. Replans, withdrawals
+ * and closed years of a project are not in it. total: the kg CO2e to date of all cells then, which is what all years'
+ * numbers add up to. It may pass 32 bits.
  */
 peat_total peat_forecast(const uint32_t *listing, size_t listing_len, uint32_t *book, size_t book_len,
                          uint64_t *output, size_t output_len);

@@ -1,4 +1,4 @@
-/* Document 01's worked listing through include/peat.h: what a C program sees of the library. */
+/* Document 01's worked listing, and a larger one, through include/peat.h: what a C program sees of the library. */
 #include "peat.h"
 #include <stdio.h>
 
@@ -20,6 +20,7 @@ int main(void) {
     peat_total forecast = peat_forecast(listing, 6, book, 5, output, 2), short_output = peat_forecast(listing, 6, book, 5, output, 1);
     printf("forecast %u %zu %llu: %llu %llu\n", forecast.number, forecast.place, (unsigned long long)forecast.total, (unsigned long long)output[0], (unsigned long long)output[1]);
     printf("forecast %u %zu %llu\n", short_output.number, short_output.place, (unsigned long long)short_output.total);
+    /* Six cells of 10,000 m2 and 240 kg per m3, 20,000 mm deep, that burn down at the greatest factor, G and e 100. */
     uint32_t deep[2 + 20 + 2 * 6] = {0x10060114, 0x20006464}, deep_book[2 + 3 * 6];
     uint64_t years[20];
     for (int i = 0; i < 20; i++) deep[2 + i] = 0x3FF003FF;
