@@ -797,6 +797,23 @@ fn forecast_of_three_cells() {
     });
 }
 
+/// The cells of the largest listing in reverse: the same numbers, and the same total.
+#[test]
+fn forecast_in_another_order() {
+    let site = generate::largest();
+    let mut reversed = site.clone();
+    reversed.cells.reverse();
+    both(|ledger| {
+        let forecasts = [&site, &reversed].map(|site| {
+            let mut output = [0; 100];
+            let answer = (ledger.forecast)(&site.words(), &mut vec![0; 770], &mut output);
+            (answer, output)
+        });
+        assert_eq!(forecasts[0], forecasts[1]);
+        assert!(forecasts[0].0.total > 0);
+    });
+}
+
 /// 256 cells of 20,000 mm that all burn with the greatest weight: 816,000,000 kg each, 208,896,000,000 in all. A year
 /// burns 1,023 mm, the 20th the 563 that are left, and a mm of all cells emits 256 × 40,800 kg.
 #[test]
