@@ -30,7 +30,7 @@ module _ (l b x : List ℕ) (fits : (fitted l b).done ≡ true) where
       omega (arith, so_far, number, total_next l t, ap (total_after l) (add-one t))
 
 -- what is answered where the tests were passed
-pub answer_is : (l b : List ℕ) (capacity : ℕ) → (forecast_answer l b capacity).done ≡ true → (forecast_answer l b capacity).value ≡ total_kg l (closed_book l (open_book l b))
+answer_is : (l b : List ℕ) (capacity : ℕ) → (forecast_answer l b capacity).done ≡ true → (forecast_answer l b capacity).value ≡ total_kg l (closed_book l (open_book l b))
 unfolding forecast_answer
 answer_is l b capacity h = ap (λ (a : Answer). a.value) (sym (after_is _ (forecast_checked l b capacity) (answer_tests l b capacity h)))
 

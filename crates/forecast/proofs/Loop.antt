@@ -78,7 +78,7 @@ module _ {l : List ℕ} (a : Accepted l) where
 
 module _ {l : List ℕ} where
   -- the cells of year t, before the first step to year t + 1, and after the last
-  pub year_begins : {t : ℕ} {xs : List CellToDate} → CellsAfter l t xs → Stepped (cell_after l t) (cell_after l (t + 1)) (cells l) 0 xs
+  year_begins : {t : ℕ} {xs : List CellToDate} → CellsAfter l t xs → Stepped (cell_after l t) (cell_after l (t + 1)) (cells l) 0 xs
   year_begins c = record { enough = c.enough; at_most = omega arith; done = λ k d lt. absurd (omega arith); left = λ k d from lt. c.each k d lt }
 
   pub cells_all : {f : ℕ → CellToDate} {t i : ℕ} {xs : List CellToDate} → Stepped f (cell_after l t) (cells l) i xs → cells l ≤ i → CellsAfter l t xs
@@ -92,7 +92,7 @@ opened_is l i c_is =
     rw c_is (ap (λ (k : ℕ). record { cell = cell l i; lost = record { oxidised = 0; burned = 0 }; kg = k }) (sym (emission_none (head l) (cell l i))))
 
 -- its entry is that of the cell's own years
-pub entry_after : (l : List ℕ) (t i : ℕ) → entry_to_date (cell_after l t i) ≡ entries_after l t i
+entry_after : (l : List ℕ) (t i : ℕ) → entry_to_date (cell_after l t i) ≡ entries_after l t i
 entry_after l t i =
     let own = after_plan l i t in
     ap₂ (λ (w : Bool) (p : ℕ). record { withdrawn = w; plan = p; oxidised = (entries_after l t i).oxidised; burned = (entries_after l t i).burned }) (sym own.0) (sym own.1)
@@ -188,9 +188,6 @@ module _ {l d : List ℕ} where
 
   -- the iteration of the year t + 1
   module _ {t total : ℕ} {xs : List CellToDate} {x : List ℕ} (r : YearsSoFar l d t total xs x) (lt : t < horizon l) where
-    pub years_within : t < length x
-    years_within = omega (arith, lt, r.output.capacity, r.output.length_is)
-
     module _ {now : ℕ} (now_is : now ≡ total_after l (t + 1)) where
       pub years_difference : total ≤ now
       years_difference = omega (arith, r.total_is, now_is, total_grows l t)

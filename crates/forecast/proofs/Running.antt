@@ -44,9 +44,9 @@ module _ (l : List ℕ) where
   pub total_grows : (t : ℕ) → total_after l t ≤ total_after l (t + 1)
   total_grows t = omega (arith, total_next t)
 
--- of the first n cells
+-- by the limits of an accepted listing: of one cell, and of the first n
 module _ {l : List ℕ} (a : Accepted l) (t : ℕ) where
-  pub kg_most : (i : ℕ) → i < cells l → (cell_after l t i).kg ≤ most_emission
+  kg_most : (i : ℕ) → i < cells l → (cell_after l t i).kg ≤ most_emission
   kg_most i lt = emission_most (entry_fit l i (entries_after l t i) a lt (after_valid a i lt t))
 
   pub total_fits : (n : ℕ) → n ≤ cells l → sum_below (λ i. (cell_after l t i).kg) n < 2 ^ 64

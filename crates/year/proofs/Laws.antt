@@ -2,12 +2,12 @@
 -- Assumes nothing.
 use mathlib.Core.Path.{◌≡◌, refl, sym, ap, ◌∙◌}
 use mathlib.Core.Logic.{⊎_elim}
-use mathlib.Core.Bool.{true, false, or-true}
+use mathlib.Core.Bool.{true, false}
 use Prim.Native.Nat.{ℕ, ◌+◌, ◌-◌, ◌*◌, ◌≤◌, ◌<◌}
 use native.Mathlib.Nat.{add-zero, mul-le-mul, sub_self}
 use native.Mathlib.Omega.{arith}
 use lib.Dec.{ltb, eqb}
-use borrow.Author.Tests.{lt-ltb, ltb-false, eqb-false}
+use borrow.Author.Tests.{ltb-false, eqb-false}
 use Rattle.std.proofs.lemmas.Bool.{or_parts}
 use Rattle.words.proofs.Signed.{by_test}
 use Rattle.fields.specs.Valid.{HeadValid, RowValid, CellValid}
@@ -161,16 +161,8 @@ module _ (h : Head) (c : Cell) where
   most_peat_lem e = rw e
 
 -- ---- which cells are inactive
--- a plan year of 0, or above t
-pub unconverted_never : (plan t : ℕ) → plan ≡ 0 → unconverted plan t ≡ true
-unfolding unconverted
-unconverted_never plan t q = rw q
 
-pub unconverted_before : (plan t : ℕ) → t < plan → unconverted plan t ≡ true
-unfolding unconverted
-unconverted_before plan t lt = rw (lt-ltb t plan lt, or-true (eqb plan 0))
-
--- one that is not so is from 1 to t
+-- a plan year that is neither 0 nor above t is from 1 to t
 pub converted : (plan t : ℕ) → unconverted plan t ≡ false → (1 ≤ plan) × (plan ≤ t)
 unfolding unconverted
 converted plan t q =
@@ -180,10 +172,6 @@ converted plan t q =
     (omega arith, le)
 
 module _ (h : Head) (c : Cell) (e : Entry) (t : ℕ) where
-  unconverted_inactive : unconverted e.plan t ≡ true → inactive h c e t ≡ true
-  unfolding inactive
-  unconverted_inactive q = rw (q, or-true e.withdrawn)
-
   -- an active cell is converted, and is peat
   pub active : inactive h c e t ≡ false → (unconverted e.plan t ≡ false) × (ltb c.entered h.thickness ≡ false)
   unfolding inactive
@@ -205,9 +193,6 @@ module _ (h : Head) (rows : ℕ → ℕ → Row) (c : Cell) (e : Entry) (t : ℕ
   pub loss_inactive : inactive h c e t ≡ true → year_loss h rows c e t ≡ no_loss
   unfolding year_loss
   loss_inactive q = rw (mm_inactive q, add-zero e.oxidised, add-zero e.burned, sub_self (kg_of h c e))
-
-  pub unconverted_loss : unconverted e.plan t ≡ true → year_loss h rows c e t ≡ no_loss
-  unconverted_loss q = loss_inactive (unconverted_inactive h c e t q)
 
   pub loss_active : inactive h c e t ≡ false → year_loss h rows c e t ≡ loss_of h c row e
   unfolding year_loss loss_of

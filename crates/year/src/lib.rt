@@ -24,7 +24,7 @@ pub struct Entry {
     pub burned: u32,
 }
 
-// The mm that a cell loses in a year, before its kg are worked out.
+// Mm lost of a cell, in a year before its kg are worked out, or to date.
 #[derive(Debug, Clone, Copy, PartialEq, Eq)]
 pub struct LostMm {
     pub oxidised: u32,

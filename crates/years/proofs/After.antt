@@ -1,14 +1,14 @@
 -- A cell's entry after t years. Assumes nothing.
 use mathlib.Core.Path.{◌≡◌, refl, sym, ap}
-use mathlib.Core.Bool.{true, false}
+use mathlib.Core.Bool.{false}
 use mathlib.Core.List.{List}
 use Prim.Native.Nat.{ℕ, zero, suc, ◌+◌, ◌≤◌, ◌<◌}
 use native.Mathlib.Numerals.{add-one}
 use native.Mathlib.Omega.{arith}
 use Rattle.listing.specs.Layout.{head, cells, row, cell}
 use Rattle.listing.specs.Accepted.{Accepted}
-use Rattle.year.specs.Year.{unconverted, no_loss, most_loss, after_loss}
-use Rattle.year.proofs.Laws.{most_entered, unconverted_loss, year_most}
+use Rattle.year.specs.Year.{most_loss, after_loss}
+use Rattle.year.proofs.Laws.{most_entered, year_most}
 use Rattle.book.specs.AcceptedBook.{Storable, EntryValid}
 use Rattle.book.proofs.Held.{valid_storable}
 use Rattle.years.specs.Years.{entries_after, loss_in}
@@ -23,10 +23,6 @@ after_plan l i (suc t) = after_plan l i t
 pub after_next : (l : List ℕ) (i t : ℕ) → after_loss (entries_after l t i) (loss_in l i t) ≡ entries_after l (t + 1) i
 unfolding entries_after
 after_next l i t = ap (λ (n : ℕ). entries_after l n i) (sym (add-one t))
-
--- nothing is lost in a year for which the cell is not yet converted
-pub unconverted_years : (l : List ℕ) (i t : ℕ) → unconverted (cell l i).conversion (t + 1) ≡ true → loss_in l i t ≡ no_loss
-unconverted_years l i t e = unconverted_loss (head l) (row l) (cell l i) (entries_after l t i) (t + 1) (rw (after_plan l i t).1 e)
 
 module _ {l : List ℕ} (a : Accepted l) (i : ℕ) (lt : i < cells l) where
   after_most : (t : ℕ) → (entries_after l t i).oxidised + (entries_after l t i).burned ≤ most_loss (head l) (cell l i)
