@@ -1,12 +1,14 @@
 -- How the answers of the calls cross to C and Rust: the paper's numbers, field by field.
 use Rattle.std.specs.Prelude.{◌≡◌, List, ℕ, eqb}
-use Rattle.words.specs.Answers.{Answer}
-use Rattle.ledger.specs.Calls.{open_effect, close_effect, replan_effect, withdraw_effect, issue_effect, StatementAnswer, statement_answer}
+use Rattle.words.specs.Answers.{Answer, AnswerWith}
+use Rattle.ledger.specs.Calls.{open_effect, close_effect, replan_effect, withdraw_effect, issue_effect, statement_answer}
+use Rattle.ledger.specs.declared.CellFigures.{CellFigures}
 use Rattle.forecast.specs.Forecast.{forecast_effect}
 use Rattle.reading.specs.Depth.{depth}
 use Rattle.reading.specs.declared.Reading.{Reading}
 use Rattle.discount.specs.Discount.{discount}
-use Rattle.logging.specs.Logging.{TestAnswer, logged}
+use Rattle.logging.specs.Logging.{logged}
+use Rattle.logging.specs.declared.LoggedFigures.{LoggedFigures}
 use Rattle.capi.specs.declared.Answer as c
 use Rattle.capi.specs.declared.Account.{Account}
 use Rattle.capi.specs.declared.Total.{Total}
@@ -17,7 +19,7 @@ abbrev pub exported : Answer → c.Answer
 exported a = record { number = a.number; value = a.value; place = a.place }
 
 -- number and place of a statement, and the figures of its account
-abbrev pub exported_account : StatementAnswer → Account
+abbrev pub exported_account : AnswerWith CellFigures → Account
 exported_account t =
     record {
       number = t.answer.number;
@@ -36,7 +38,7 @@ abbrev pub exported_total : Answer → Total
 exported_total a = record { number = a.number; place = a.place; total = a.value }
 
 -- number and place of a test of logged blocks, and its figures
-abbrev pub exported_logged : TestAnswer → LoggedAnswer
+abbrev pub exported_logged : AnswerWith LoggedFigures → LoggedAnswer
 exported_logged t = record { number = t.answer.number; place = t.answer.place; average = t.figures.average; holds = t.figures.holds }
 
 -- ---- what a caller may take number 0 for

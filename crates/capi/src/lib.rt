@@ -3,13 +3,14 @@
 #![tactic(auto)]
 
 ghost use Rattle.std.specs.Prelude.{◌≡◌};
-ghost use Rattle.words.specs.Answers.{accepted, refused, outcome, amount};
-ghost use Rattle.ledger.specs.Calls.{open_effect, close_effect, replan_effect, withdraw_effect, issue_effect, stated, statement_answer};
+ghost use Rattle.words.specs.Answers.{accepted, refused, outcome, amount, answer_with};
+ghost use Rattle.ledger.specs.Calls.{open_effect, close_effect, replan_effect, withdraw_effect, issue_effect, no_figures, statement_answer};
 ghost use Rattle.forecast.specs.Forecast.{forecast_effect};
 ghost use Rattle.reading.specs.Depth.{depth};
 ghost use Rattle.reading.specs.declared.Reading.TheVariants.{Core, Levels, Missing};
 ghost use Rattle.discount.specs.Discount.{discount};
-ghost use Rattle.logging.specs.Logging.{tested, logged};
+ghost use Rattle.logging.specs.Logging.{logged};
+ghost use Rattle.logging.specs.Logging as logging;
 ghost use Rattle.capi.specs.Exported.{exported, exported_account, exported_total, exported_logged};
 
 use ledger::CellFigures;
@@ -91,7 +92,7 @@ impl From<Result<(), Refusal>> for Answer {
 }
 
 impl From<Result<CellFigures, Refusal>> for Account {
-    ghost from_gives = { λ answer a. a ≡ exported_account (stated answer) };
+    ghost from_gives = { λ answer a. a ≡ exported_account (answer_with no_figures answer) };
 
     fn from(answer: Result<CellFigures, Refusal>) -> Account {
         match answer {
@@ -141,7 +142,7 @@ impl From<Result<u64, Refusal>> for Total {
 }
 
 impl From<Result<LoggedFigures, Refusal>> for LoggedAnswer {
-    ghost from_gives = { λ answer a. a ≡ exported_logged (tested answer) };
+    ghost from_gives = { λ answer a. a ≡ exported_logged (answer_with logging.no_figures answer) };
 
     fn from(answer: Result<LoggedFigures, Refusal>) -> LoggedAnswer {
         match answer {

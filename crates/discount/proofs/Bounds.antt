@@ -9,10 +9,11 @@ use lib.ListN.{length}
 use mir.Val.{Fits}
 use mir.Syntax.{w64}
 use Rattle.std.proofs.lemmas.Bool.Decides.{nat_tests}
+use Rattle.std.specs.Int.{abs_diff}
 use Rattle.words.specs.Bits.{within}
 use Rattle.sums.specs.Sums.{weighted, sum}
 use Rattle.sums.proofs.Meaning.{weighted_le, sum_le}
-use Rattle.discount.specs.Discount.{square, distance, lengths_valid, values_valid, most_pools, most_value}
+use Rattle.discount.specs.Discount.{square, lengths_valid, values_valid, most_pools, most_value}
 use Rattle.discount.specs.Bounds.{most_stock, most_squares, Bounded}
 
 pub lengths : (a b c d : ℕ) → lengths_valid a b c d ≡ true → (a ≡ b) × (a ≡ c) × (a ≡ d) × (a ≤ most_pools)
@@ -38,7 +39,7 @@ total_le : (v : List ℕ) → Bounded v → sum v ≤ most_stock
 total_le v b = omega (arith, sum_le most_value v b.values_at_most, b.length_at_most)
 
 -- and so the distance of two sums
-pub distance_le : (v w : List ℕ) → Bounded v → Bounded w → distance (sum v) (sum w) ≤ most_stock
+pub distance_le : (v w : List ℕ) → Bounded v → Bounded w → abs_diff (sum v) (sum w) ≤ most_stock
 distance_le v w b c = omega (arith, total_le v b, total_le w c)
 
 pub square_le : (d : ℕ) → d ≤ most_stock → square d ≤ square most_stock

@@ -1,5 +1,6 @@
 -- Document 01's paragraph "Discount takes four lists", in its own letters Q and D.
 use Rattle.std.specs.Prelude.{ℕ, zero, suc, ◌+◌, ◌-◌, ◌*◌, ◌<◌, ◌≤◌, ◌≡◌, Bool, cond, ◌&&◌, List, leb, eqb, length}
+use Rattle.std.specs.Int.{abs_diff}
 use Rattle.words.specs.Bits.{within}
 use Rattle.words.specs.Answers.{Answer, accepted, need}
 use Rattle.words.specs.Refusals.{list_lengths, value_too_large}
@@ -8,10 +9,6 @@ use Rattle.sums.specs.Sums.{weighted, sum, all_at_most}
 -- Q: "the sum of all squared half-widths", of the first class and of the second
 abbrev pub squares : List ℕ → List ℕ → ℕ
 squares first second = weighted first first + weighted second second
-
--- D is the "distance" of the stock sums: of the two differences one is 0
-abbrev pub distance : ℕ → ℕ → ℕ
-distance x y = (x - y) + (y - x)
 
 -- the greatest number up to `top` that passes a test, and 0 where none does
 unfoldable pub greatest : (ℕ → Bool) → ℕ → ℕ
@@ -66,7 +63,7 @@ most_value = 20000
 abbrev pub values_valid : List ℕ → Bool
 values_valid values = all_at_most most_value values
 
--- what the call answers for any four lists; lists 0 to 3 are tested one after the other
+-- what the call answers for any four lists; lists 0 to 3 are tested one after the other. D is the "distance" of the stock sums
 unfoldable pub discount : List ℕ → List ℕ → List ℕ → List ℕ → Answer
 discount first_widths second_widths first_stocks second_stocks =
     need (lengths_valid (length first_widths) (length second_widths) (length first_stocks) (length second_stocks)) list_lengths 0
@@ -74,4 +71,4 @@ discount first_widths second_widths first_stocks second_stocks =
     (need (values_valid second_widths) value_too_large 1
     (need (values_valid first_stocks) value_too_large 2
     (need (values_valid second_stocks) value_too_large 3
-    (accepted (factor (squares first_widths second_widths) (distance (sum first_stocks) (sum second_stocks))))))))
+    (accepted (factor (squares first_widths second_widths) (abs_diff (sum first_stocks) (sum second_stocks))))))))

@@ -6,19 +6,14 @@ use Prim.Native.Nat.{ℕ, ◌^◌, ◌≤◌, ◌<◌}
 use native.Mathlib.Omega.{arith}
 use lib.Dec.{eqb, ltb, leb}
 use borrow.Author.Tests.{lt-ltb, leb-true, ltb-true, eqb-true}
-use Rattle.std.specs.Prelude.{Result}
-use Rattle.std.specs.Result.{IsErrAnd}
-use Rattle.std.proofs.lemmas.Result.{err_from_is_err_and}
 use Rattle.words.specs.Answers.{Answer, accepted, refused}
 use Rattle.words.specs.Refusals.{number_of, no_such_cell}
-use Rattle.words.specs.declared.Refusal.{Refusal}
 use Rattle.words.proofs.Answers.{need_accepted, after_accepted, need_is, after_is, and_right}
 use Rattle.listing.specs.Layout.{cells, horizon}
 use Rattle.book.specs.Current.{current, admitted}
 use Rattle.book.specs.Layout.{year}
 use Rattle.book.proofs.AcceptedBook.{shaped, accepted_book, accepted_book_cell}
-use Rattle.ledger.specs.Calls.{cell_checked, admitted_cell, admitted_unwithdrawn, ahead, plan_checked, replan_answer, StatementAnswer, figures_of, stated, statement_answer}
-use Rattle.ledger.specs.declared.CellFigures.{CellFigures}
+use Rattle.ledger.specs.Calls.{cell_checked, admitted_cell, admitted_unwithdrawn, ahead, plan_checked, replan_answer}
 use Rattle.ledger.specs.AdmittedCell.{AdmittedCell}
 
 module _ (l b : List ℕ) (i : ℕ) where
@@ -79,14 +74,3 @@ module _ (l b : List ℕ) (i : ℕ) where
       let (r, le) = replan_accepted y (ap (λ (a : Answer). a.done) (sym e)) in
       let most = r.accepted_book.fitted.accepted.head_valid.horizon.1 in
       (r, omega arith)
-
-  -- ---- what a statement answers
-
-  pub statement_passed : (x : ℕ) → accepted x ≡ admitted_cell l b i → (s : CellFigures) → s ≡ figures_of l b i →
-      ◌≡◌ {A = StatementAnswer} (record { answer = accepted x; figures = s }) (statement_answer l b i)
-  unfolding statement_answer
-  statement_passed x e s q = rw (← e, q)
-
-  pub statement_refused : (v : Result CellFigures Refusal) (r : Refusal) → IsErrAnd v (λ d. d ≡ r) → refused (number_of r.reason) r.place ≡ admitted_cell l b i → stated v ≡ statement_answer l b i
-  unfolding statement_answer
-  statement_refused v r is e = let p = err_from_is_err_and v is in rw (p.1, p.2, ← e)

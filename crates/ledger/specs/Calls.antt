@@ -1,9 +1,8 @@
 -- Document 01, "Book and calls": what each call on a listing l and a book b answers, and what it leaves in the slices lent to it.
-use Rattle.std.specs.Prelude.{◌≡◌, ℕ, ◌+◌, ◌*◌, ◌≤◌, Bool, false, cond, not, ◌&&◌, ◌||◌, List, [], leb, ltb, eqb, length, get_or, Result, Ok, Err}
-use Rattle.words.specs.Answers.{Answer, accepted, refused, need, after}
+use Rattle.std.specs.Prelude.{◌≡◌, ℕ, ◌+◌, ◌*◌, ◌≤◌, Bool, false, cond, not, ◌&&◌, ◌||◌, List, [], leb, ltb, eqb, length, get_or}
+use Rattle.words.specs.Answers.{Answer, AnswerWith, accepted, need, after, with_figures}
 use Rattle.words.specs.Effect.{Effect, commit, commit_both}
-use Rattle.words.specs.Refusals.{number_of, no_such_cell, cell_withdrawn, cell_converted, year_not_ahead}
-use Rattle.words.specs.declared.Refusal.{Refusal}
+use Rattle.words.specs.Refusals.{no_such_cell, cell_withdrawn, cell_converted, year_not_ahead}
 use Rattle.listing.specs.Layout.{cells, horizon, cell}
 use Rattle.year.specs.Year.{unconverted, remaining, planned, marked}
 use Rattle.book.specs.Current.{book_size, issued, entry, kg_to_date, with_issued, with_plan, fitted, admitted}
@@ -82,19 +81,9 @@ issue_effect l b = commit (issue_answer l b) b (with_issued b (issued b + tonnes
 
 -- ---- statement: a cell's entered, remaining, O, B, kg to date, plan year and mark; writes nothing
 
--- its answer, and the figures
-pub record StatementAnswer : Type 0 where
-  pub answer : Answer
-  pub figures : CellFigures
-
 -- where it is refused, every figure is 0
 abbrev pub no_figures : CellFigures
 no_figures = record { entered = 0; remaining = 0; oxidised = 0; burned = 0; kg = 0; plan_year = 0; withdrawn = false }
-
--- the cases of the answer
-abbrev pub stated : Result CellFigures Refusal → StatementAnswer
-stated (Ok a) = record { answer = accepted 0; figures = a }
-stated (Err r) = record { answer = refused (number_of r.reason) r.place; figures = no_figures }
 
 -- the figures of cell i: remaining depth and kg to date follow from O and B
 unfoldable pub figures_of : List ℕ → List ℕ → ℕ → CellFigures
@@ -110,8 +99,8 @@ figures_of l b i =
     }
 
 -- refused by 1 to 6, 8 and 10
-unfoldable pub statement_answer : List ℕ → List ℕ → ℕ → StatementAnswer
-statement_answer l b i = record { answer = admitted_cell l b i; figures = cond (admitted_cell l b i).done (figures_of l b i) no_figures }
+unfoldable pub statement_answer : List ℕ → List ℕ → ℕ → AnswerWith CellFigures
+statement_answer l b i = with_figures no_figures (admitted_cell l b i) (figures_of l b i)
 
 -- ---- any call that may write
 

@@ -3,11 +3,11 @@
 #![tactic(auto)]
 
 ghost use Rattle.std.specs.Prelude.{◌≡◌, ◌<◌, [], IfOk};
-ghost use Rattle.words.specs.Answers.{outcome, amount};
+ghost use Rattle.words.specs.Answers.{outcome, amount, answer_with};
 ghost use Rattle.words.specs.Effect.{effect};
 ghost use Rattle.listing.specs.Layout.{cells};
 ghost use Rattle.ledger.specs.Calls.{open_effect, close_effect, cell_checked, admitted_cell, mark_checked, admitted_unwithdrawn, plan_checked, replan_answer, replan_effect};
-ghost use Rattle.ledger.specs.Calls.{withdraw_effect, issue_effect, stated, figures_of, statement_answer};
+ghost use Rattle.ledger.specs.Calls.{withdraw_effect, issue_effect, no_figures, figures_of, statement_answer};
 
 use book::{BOOK, OpenBook};
 use listing::Listing;
@@ -164,7 +164,7 @@ fn figures_of(book: &OpenBook<'_>, cell: usize) -> CellFigures
 
 // Answers what the listing and the book state of a cell.
 pub fn statement(listing: &[u32], book: &[u32], cell: usize) -> Result<CellFigures, Refusal>
-    ensures { stated result ≡ statement_answer listing.now book.now cell }
+    ensures { answer_with no_figures result ≡ statement_answer listing.now book.now cell }
 {
     let open = admit_cell(listing, book, cell)?;
     Ok(figures_of(&open, cell))

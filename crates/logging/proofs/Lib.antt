@@ -1,4 +1,3 @@
 -- Laws that the proofs of this crate cite.
 pub mod Bounds
 pub mod Equations
-pub mod Answered

@@ -1,12 +1,11 @@
 -- Document 02, "Logged blocks": the long-term average carbon stock of EQ34, exact, and the test of EQ48, by which it limits term 4. Densities
 -- and the average are "in tenths of t C per ha", areas "in ha", discounts "in ten-thousandths"; T is the number of years.
-use Rattle.std.specs.Prelude.{ℕ, ◌+◌, ◌-◌, ◌*◌, ◌/◌, ◌≡◌, Bool, true, false, cond, ◌&&◌, List, map, Result, Ok, Err, leb, eqb, length, drop, get_or}
+use Rattle.std.specs.Prelude.{ℕ, ◌+◌, ◌-◌, ◌*◌, ◌/◌, ◌≡◌, Bool, true, false, ◌&&◌, List, map, leb, eqb, length, drop, get_or}
 use Rattle.words.specs.Bits.{within}
 use Rattle.words.specs.Blocks.{blocks}
 use Rattle.words.specs.Sums.{sum_below}
-use Rattle.words.specs.Answers.{Answer, accepted, refused, need}
-use Rattle.words.specs.Refusals.{number_of, logged_sizes, logged_value_too_large}
-use Rattle.words.specs.declared.Refusal.{Refusal}
+use Rattle.words.specs.Answers.{Answer, AnswerWith, accepted, need, with_figures}
+use Rattle.words.specs.Refusals.{logged_sizes, logged_value_too_large}
 use Rattle.sums.specs.Sums.{weighted, products, sum, all_at_most}
 use Rattle.logging.specs.declared.LoggedFigures.{LoggedFigures}
 
@@ -81,25 +80,13 @@ tables_checked T strata densities areas discounts =
     (need (values_valid discounts) logged_value_too_large 2
     (accepted 0))))
 
--- what the call answers: number and place, and the figures
-pub record TestAnswer : Type 0 where
-  pub answer : Answer
-  pub figures : LoggedFigures
-
 -- where it is refused, `average` is 0 and `holds` is false
 abbrev pub no_figures : LoggedFigures
 no_figures = record { average = 0; holds = false }
 
--- the cases of the answer
-abbrev pub tested : Result LoggedFigures Refusal → TestAnswer
-tested (Ok figures) = record { answer = accepted 0; figures = figures }
-tested (Err r) = record { answer = refused (number_of r.reason) r.place; figures = no_figures }
-
 -- what it answers for any T, number of strata and lists
-unfoldable pub logged : ℕ → ℕ → List ℕ → List ℕ → List ℕ → TestAnswer
-logged T strata densities areas discounts =
-    let checked = tables_checked T strata densities areas discounts in
-    record { answer = checked; figures = cond checked.done (figures_of T densities areas discounts) no_figures }
+unfoldable pub logged : ℕ → ℕ → List ℕ → List ℕ → List ℕ → AnswerWith LoggedFigures
+logged T strata densities areas discounts = with_figures no_figures (tables_checked T strata densities areas discounts) (figures_of T densities areas discounts)
 
 -- ---- that these are the equations, by year and stratum
 

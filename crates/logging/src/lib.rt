@@ -3,9 +3,9 @@
 #![tactic(auto)]
 
 ghost use Rattle.std.specs.Prelude.{◌≡◌, true, ◌+◌, ◌*◌, ◌/◌, ◌≤◌, length, leb};
-ghost use Rattle.words.specs.Answers.{outcome};
+ghost use Rattle.words.specs.Answers.{outcome, answer_with};
 ghost use Rattle.sums.specs.Sums.{products, sum};
-ghost use Rattle.logging.specs.Logging.{each_year, most_years, figures_of, sizes_valid, tables_checked, tested, logged};
+ghost use Rattle.logging.specs.Logging.{each_year, most_years, figures_of, sizes_valid, tables_checked, no_figures, logged};
 ghost use Rattle.logging.specs.Bounds.{Accepted, most_densities, most_stock, most_area, most_left, Discounted};
 
 use words::{Reason, Refusal, need};
@@ -126,7 +126,7 @@ pub fn logged(
     areas: &[u32],
     discounts: &[u32],
 ) -> Result<LoggedFigures, Refusal>
-    ensures { tested result ≡ logged years strata densities.now areas.now discounts.now }
+    ensures { answer_with no_figures result ≡ logged years strata densities.now areas.now discounts.now }
 {
     check(years, strata, densities, areas, discounts)?;
     let tables = Tables {

@@ -7,7 +7,7 @@ use native.Mathlib.Omega.{arith}
 use lib.Dec.{ltb}
 use lib.ListN.{length}
 use borrow.Author.Tests.{lt-ltb}
-use Rattle.words.specs.Answers.{Answer, accepted, after}
+use Rattle.words.specs.Answers.{Answer, AnswerWith, accepted, after}
 use Rattle.words.specs.Effect.{written}
 use Rattle.words.specs.Sums.{sum_below}
 use Rattle.words.proofs.Answers.{cond_both, after_both}
@@ -30,7 +30,7 @@ use Rattle.closing.specs.Closing.{lines_checked, year_checked, close_answer}
 use Rattle.closing.proofs.Closable.{year_checked_is, closable}
 use Rattle.ledger.specs.declared.CellFigures.{CellFigures}
 use Rattle.ledger.specs.Calls.{close_effect, cell_checked, admitted_cell, mark_checked, admitted_unwithdrawn, ahead, plan_checked, replan_answer, replan_effect, withdraw_effect}
-use Rattle.ledger.specs.Calls.{issue_answer, issue_effect, StatementAnswer, no_figures, figures_of, statement_answer, Call, Close, Replan, Withdraw, Issue, call_effect}
+use Rattle.ledger.specs.Calls.{issue_answer, issue_effect, no_figures, figures_of, statement_answer, Call, Close, Replan, Withdraw, Issue, call_effect}
 use Rattle.ledger.specs.Calls.{lines_buffer}
 use Rattle.ledger.proofs.AdmittedCell.{admitted_cell_accepted, unwithdrawn_accepted, replan_accepted}
 use Rattle.ledger.proofs.After.{call_admitted, call_admits}
@@ -239,7 +239,7 @@ module _ {n : ℕ} {o : Order n} {l l' b b' : List ℕ} (v : Pair o l l' b b') w
         (cond_both (λ x x'. x' ≡ x) (admitted_cell l b k).done (admitted_cell l b k).done _ no_figures _ no_figures refl
         (λ done. figures_same k (rw e.count at (admitted_cell_accepted l b k done).there)) (λ refused. refl)))
       where
-        answer_of : Answer → CellFigures → StatementAnswer
+        answer_of : Answer → CellFigures → AnswerWith CellFigures
         answer_of x c = record { answer = x; figures = c }
 
     module _ (c : Call) (y : List ℕ) (long : length y ≡ length (lines_buffer c)) where

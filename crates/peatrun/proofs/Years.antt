@@ -8,7 +8,7 @@ use native.Mathlib.Omega.{arith}
 use lib.Dec.{leb}
 use lib.ListN.{length}
 use borrow.Author.Tests.{le-leb}
-use Rattle.words.specs.Answers.{Answer, accepted, after}
+use Rattle.words.specs.Answers.{Answer, AnswerWith, accepted, after}
 use Rattle.words.specs.Effect.{Effect, effect}
 use Rattle.words.specs.Refusals.{book_short}
 use Rattle.words.proofs.Answers.{need_is, after_is}
@@ -27,7 +27,8 @@ use Rattle.book.specs.Check as check
 use Rattle.book.proofs.AcceptedBook.{shaped, accepted_book}
 use Rattle.closing.specs.Closable.{Closable}
 use Rattle.closing.proofs.Closable.{closable_before, closes}
-use Rattle.ledger.specs.Calls.{open_effect, close_effect, issue_answer, issue_effect, StatementAnswer, figures_of, statement_answer}
+use Rattle.ledger.specs.declared.CellFigures.{CellFigures}
+use Rattle.ledger.specs.Calls.{open_effect, close_effect, issue_answer, issue_effect, figures_of, statement_answer}
 use Rattle.ledger.proofs.AdmittedCell.{cell_admitted}
 use Rattle.ledger.proofs.After.{opened_holds, closed_holds, issued_holds}
 use Rattle.peatrun.specs.Years.{RefusedByListing, InYear, Ran, Slices, ran_for}
@@ -115,7 +116,7 @@ ran_next l s t b x book' lines' tonnes b-is x_is r = (
 
 -- ---- a statement of a cell of an opened book, which answered s
 
-module _ (l b : List ℕ) (i : ℕ) (admits : (admitted l b).done ≡ true) (lt : i < cells l) (s : StatementAnswer) (e : s ≡ statement_answer l b i) where
+module _ (l b : List ℕ) (i : ℕ) (admits : (admitted l b).done ≡ true) (lt : i < cells l) (s : AnswerWith CellFigures) (e : s ≡ statement_answer l b i) where
   pub stated_passed : s.answer.done ≡ true
   unfolding statement_answer
   stated_passed = rw e (cell_admitted l b i admits lt)

@@ -45,3 +45,19 @@ need_all n valid from to next = need_none n (first_invalid valid from to) to nex
 -- a refusal of the tests before, and `next` where they were passed
 unfoldable pub after : Answer → Answer → Answer
 after before next = cond before.done next before
+
+-- ---- answers with figures beside them
+
+-- what a call answers that answers a struct: number and place, with the value 0, and the struct's figures
+pub record AnswerWith (F : Type 0) : Type 0 where
+  pub answer : Answer
+  pub figures : F
+
+-- the cases of such an answer; a refused one has the figures `none`
+abbrev pub answer_with : {F : Type 0} → F → Result F Refusal → AnswerWith F
+answer_with none (Ok f) = record { answer = accepted 0; figures = f }
+answer_with none (Err r) = record { answer = refused (number_of r.reason) r.place; figures = none }
+
+-- the figures where the tests of a call were passed, and `none` where not
+abbrev pub with_figures : {F : Type 0} → F → Answer → F → AnswerWith F
+with_figures none a figures = record { answer = a; figures = cond a.done figures none }

@@ -64,11 +64,11 @@ line_too_large = 14
 abbrev pub output_short : ℕ
 output_short = 15
 
--- reading: not finite; 0 or 1
+-- reading: not finite; 0 or 1, of a dip its index
 abbrev pub not_finite : ℕ
 not_finite = 16
 
--- out of range; 0, 1 or 2
+-- out of range; 0, 1 or 2, of a dip its index
 abbrev pub out_of_range : ℕ
 out_of_range = 17
 
@@ -91,6 +91,14 @@ logged_sizes = 21
 -- a value too large; the list, 0–2
 abbrev pub logged_value_too_large : ℕ
 logged_value_too_large = 22
+
+-- dips: lists of one recording that differ in length; 0
+abbrev pub dips_lengths : ℕ
+dips_lengths = 23
+
+-- day not above the one before; the later index
+abbrev pub day_not_above : ℕ
+day_not_above = 24
 
 -- the number that each reason of the code stands for
 abbrev pub number_of : Reason → ℕ
@@ -115,3 +123,5 @@ number_of reasons.ListLengths = list_lengths
 number_of reasons.ValueTooLarge = value_too_large
 number_of reasons.LoggedSizes = logged_sizes
 number_of reasons.LoggedValueTooLarge = logged_value_too_large
+number_of reasons.DipsLengths = dips_lengths
+number_of reasons.DayNotAbove = day_not_above

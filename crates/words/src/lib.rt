@@ -41,9 +41,9 @@ pub enum Reason {
     YearNotAhead = 13,
     // Forecast: output too short; its length.
     OutputShort = 15,
-    // Reading: not finite; 0 or 1.
+    // Reading: not finite; 0 or 1, of a dip its index.
     NotFinite = 16,
-    // Out of range; 0, 1 or 2.
+    // Out of range; 0, 1 or 2, of a dip its index.
     OutOfRange = 17,
     // Missing; place 0.
     ReadingMissing = 18,
@@ -55,6 +55,10 @@ pub enum Reason {
     LoggedSizes = 21,
     // A value too large; the list, 0–2.
     LoggedValueTooLarge = 22,
+    // Dips: lists of one recording that differ in length; place 0.
+    DipsLengths = 23,
+    // Day not above the one before; the later index.
+    DayNotAbove = 24,
 }
 
 // Why a call is refused, and where.

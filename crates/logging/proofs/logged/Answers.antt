@@ -3,8 +3,9 @@ use Rattle.std.proofs.Common.{sym, ap}
 use lib.Seq.{length-take-le}
 use Rattle.words.specs.Answers.{Answer}
 use Rattle.logging.specs.Bounds.{Accepted}
+use Rattle.logging.specs.Logging.{logged}
 use Rattle.logging.proofs.Bounds.{accepted_by, densities_le, discounted_by}
-use Rattle.logging.proofs.Answered.{logged_refused, logged_passed}
+use Rattle.words.proofs.Answers.{with_refused, with_passed}
 use Rattle.logging.proofs.logged.Goals as goal
 use Rattle.logging.proofs.logged.Goals.{In_ok-check}
 
@@ -12,7 +13,8 @@ tables : (c : In_ok-check) → Accepted c.args.years c.args.densities.now c.args
 tables c = accepted_by _ _ _ _ _ (ap (λ (a : Answer). a.done) (sym c.in_ok-check.ensures))
 
 pub returns-in_err-check : goal.returns-in_err-check
-returns-in_err-check c = logged_refused _ _ _ _ _ _ _ c.from_residual.ensures.1 c.in_err-check.ensures
+unfolding logged
+returns-in_err-check c = with_refused _ _ _ _ _ c.from_residual.ensures.1 c.in_err-check.ensures
 
 pub slice_bounds-buffer-end : goal.slice_bounds-buffer-end
 slice_bounds-buffer-end c = densities_le (tables (goal.at.slice_bounds-buffer-end c).In_ok-check)
@@ -27,4 +29,5 @@ pub figures-requires : goal.figures-requires
 figures-requires c = discounted_by (tables (goal.at.figures-requires c).In_ok-check) _ c.discount_densities.ensures
 
 pub returns : goal.returns
-returns c = logged_passed _ _ _ _ _ c.in_ok-check.ensures _ c.figures.ensures
+unfolding logged
+returns c = with_passed _ _ _ _ c.in_ok-check.ensures c.figures.ensures
