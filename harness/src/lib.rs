@@ -51,6 +51,28 @@ pub struct LoggedAnswer {
     pub holds: bool,
 }
 
+/// What two recordings held against each other answer; where they are refused, every count is 0, `differs` false
+/// and `day` 0.
+#[repr(C)]
+#[derive(Clone, Copy, Debug, Default, PartialEq, Eq)]
+pub struct DipsAnswer {
+    pub number: u32,
+    pub place: usize,
+    pub paired: usize,
+    pub only_first: usize,
+    pub only_second: usize,
+    pub differs: bool,
+    pub day: u32,
+}
+
+/// A recording of a well: for each dip its day number, its depth and its tolerance in metres.
+#[derive(Clone, Copy, Debug)]
+pub struct Recording<'a> {
+    pub days: &'a [u32],
+    pub depths: &'a [f32],
+    pub tolerances: &'a [f32],
+}
+
 /// A field reading in metres.
 #[derive(Clone, Copy, Debug)]
 pub enum Reading {
@@ -77,6 +99,7 @@ pub struct Ledger {
     pub depth: fn(Reading) -> Answer,
     pub discount: Discount,
     pub logged: Logged,
+    pub dips: fn(Recording, Recording) -> DipsAnswer,
 }
 
 pub const PROVED: Ledger = Ledger {
@@ -90,6 +113,7 @@ pub const PROVED: Ledger = Ledger {
     depth: proved::depth,
     discount: proved::discount,
     logged: proved::logged,
+    dips: proved::dips,
 };
 
 pub const REFERENCE: Ledger = Ledger {
@@ -103,4 +127,5 @@ pub const REFERENCE: Ledger = Ledger {
     depth: reference::depth,
     discount: reference::discount,
     logged: reference::logged,
+    dips: reference::dips,
 };

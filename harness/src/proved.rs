@@ -1,8 +1,8 @@
 //! Safe wrappers over the proved library: no call asks anything of its caller but valid slices.
-use crate::{Account, Answer, LoggedAnswer, Reading, Total};
+use crate::{Account, Answer, DipsAnswer, LoggedAnswer, Reading, Recording, Total};
 
 pub mod sys {
-    use crate::{Account, Answer, LoggedAnswer, Total};
+    use crate::{Account, Answer, DipsAnswer, LoggedAnswer, Total};
 
     // As in include/peat.h: a slice is a pointer and then its length.
     unsafe extern "C" {
@@ -79,6 +79,20 @@ pub mod sys {
             discounts: *const u32,
             discounts_len: usize,
         ) -> LoggedAnswer;
+        pub fn peat_dips(
+            first_days: *const u32,
+            first_days_len: usize,
+            first_depths: *const f32,
+            first_depths_len: usize,
+            first_tolerances: *const f32,
+            first_tolerances_len: usize,
+            second_days: *const u32,
+            second_days_len: usize,
+            second_depths: *const f32,
+            second_depths_len: usize,
+            second_tolerances: *const f32,
+            second_tolerances_len: usize,
+        ) -> DipsAnswer;
     }
 }
 
@@ -221,6 +235,26 @@ pub fn logged(
             areas.len(),
             discounts.as_ptr(),
             discounts.len(),
+        )
+    }
+}
+
+pub fn dips(first: Recording, second: Recording) -> DipsAnswer {
+    // SAFETY: the six slices are valid for their lengths and only read.
+    unsafe {
+        sys::peat_dips(
+            first.days.as_ptr(),
+            first.days.len(),
+            first.depths.as_ptr(),
+            first.depths.len(),
+            first.tolerances.as_ptr(),
+            first.tolerances.len(),
+            second.days.as_ptr(),
+            second.days.len(),
+            second.depths.as_ptr(),
+            second.depths.len(),
+            second.tolerances.as_ptr(),
+            second.tolerances.len(),
         )
     }
 }

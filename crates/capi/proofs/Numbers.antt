@@ -1,10 +1,12 @@
--- Every call's answer has number 0 exactly where it is accepted: a refusal's number is one of the table's, 1 to 22. Assumes nothing.
-use mathlib.Core.Path.{refl, sym}
+-- Every call's answer has number 0 exactly where it is accepted: a refusal's number is one of the table's, 1 to 24. Assumes nothing.
+use mathlib.Core.Path.{refl, sym, ◌∙◌}
 use mathlib.Core.Bool.{Bool}
 use mathlib.Core.List.{List}
-use Prim.Native.Nat.{ℕ, ◌≤◌}
+use Prim.Native.Nat.{ℕ, zero, suc, ◌≤◌}
 use native.Mathlib.Omega.{arith}
-use borrow.Author.Tests.{ne_eqb}
+use borrow.Author.Tests.{ne_eqb, eqb-false}
+use lib.Ieee.{Float}
+use Rattle.words.proofs.Signed.{by_test}
 use Rattle.words.specs.Answers.{Answer, accepted, refused, need, need_none, after}
 use Rattle.words.proofs.Answers.{need_either, need_none_either, after_either}
 use Rattle.listing.specs.Check.{checked}
@@ -19,6 +21,7 @@ use Rattle.forecast.specs.Forecast.{output_checked, forecast_checked, forecast_a
 use Rattle.reading.specs.Depth.{core, levels, depth}
 use Rattle.reading.specs.declared.Reading.{Reading}
 use Rattle.reading.specs.declared.Reading.TheVariants.{Core, Levels, Missing}
+use Rattle.dips.specs.Dips.{Recorded, dip, metres_checked, dip_checked, readings_checked, dips_checked, dips}
 use Rattle.discount.specs.Discount.{discount}
 use Rattle.logging.specs.Logging.{tables_checked, logged}
 use Rattle.capi.specs.Exported.{Numbered, EveryNumber}
@@ -72,9 +75,23 @@ depth_numbered (Levels surface base) =
     needed _ 16 _ _ (omega arith) (needed _ 16 _ _ (omega arith) (needed _ 17 _ _ (omega arith) (needed _ 17 _ _ (omega arith) (needed _ 17 _ _ (omega arith) (none _)))))
 depth_numbered Missing = record { exactly = refl }
 
+-- a reading of a dip is refused by the number of its core depth
+metres_numbered : (k : ℕ) (x : Float) → Numbered (metres_checked k x)
+unfolding metres_checked need
+metres_numbered k x =
+    by_test Numbered (core x).done (accepted 0) (refused (core x).number k) (λ _. none 0)
+    (λ e. let other = eqb-false (core x).number 0 (sym (depth_numbered (Core x)).exactly ∙ e) in refusal (core x).number k (omega arith))
+
+readings_numbered : (r : Recorded) (k n : ℕ) → Numbered (readings_checked r k n)
+unfolding readings_checked dip_checked
+readings_numbered r k zero = none 0
+readings_numbered r k (suc n) =
+    let d = dip r k in
+    then _ _ (then _ _ (metres_numbered k d.depth) (metres_numbered k d.tolerance)) (readings_numbered r (suc k) n)
+
 pub every_number : EveryNumber
 unfolding open_effect close_effect close_answer lines_checked year_checked replan_effect replan_answer plan_checked withdraw_effect issue_effect issue_answer statement_answer
-    forecast_effect forecast_answer forecast_checked output_checked discount logged tables_checked
+    forecast_effect forecast_answer forecast_checked output_checked discount logged tables_checked dips dips_checked
 every_number =
     record {
       of_open = fitted_numbered;
@@ -89,4 +106,8 @@ every_number =
       of_depth = depth_numbered;
       of_discount = λ a b c d. needed _ 19 _ _ (omega arith) (needed _ 20 _ _ (omega arith) (needed _ 20 _ _ (omega arith) (needed _ 20 _ _ (omega arith) (needed _ 20 _ _ (omega arith) (none _)))));
       of_logged = λ T n a b c. needed _ 21 _ _ (omega arith) (needed _ 22 _ _ (omega arith) (needed _ 22 _ _ (omega arith) (needed _ 22 _ _ (omega arith) (none _))));
+      of_dips =
+          λ first second. needed _ 23 _ _ (omega arith)
+          (needed _ 23 _ _ (omega arith)
+          (searched 24 _ _ _ (omega arith) (searched 24 _ _ _ (omega arith) (then _ _ (readings_numbered first 0 _) (readings_numbered second 0 _)))));
     }

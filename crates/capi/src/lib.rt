@@ -9,10 +9,13 @@ ghost use Rattle.forecast.specs.Forecast.{forecast_effect};
 ghost use Rattle.reading.specs.Depth.{depth};
 ghost use Rattle.reading.specs.declared.Reading.TheVariants.{Core, Levels, Missing};
 ghost use Rattle.discount.specs.Discount.{discount};
+ghost use Rattle.dips.specs.Dips.{recording_of, dips};
+ghost use Rattle.dips.specs.Dips as dips_figures;
 ghost use Rattle.logging.specs.Logging.{logged};
 ghost use Rattle.logging.specs.Logging as logging;
-ghost use Rattle.capi.specs.Exported.{exported, exported_account, exported_total, exported_logged};
+ghost use Rattle.capi.specs.Exported.{exported, exported_account, exported_total, exported_logged, exported_dips};
 
+use dips::{DipsFigures, Recording};
 use ledger::CellFigures;
 use logging::LoggedFigures;
 use words::Refusal;
@@ -61,6 +64,21 @@ pub struct LoggedAnswer {
     pub place: usize,
     pub average: u32,
     pub holds: bool,
+}
+
+// The answer of two recordings held against each other: number and place as above, the number of days in both,
+// in the first alone and in the second alone, whether a day in both differs, and the first that does. `differs`
+// tells whether there is one: its day number may be 0.
+#[repr(C)]
+#[derive(Clone, Copy, Debug, PartialEq, Eq)]
+pub struct DipsAnswer {
+    pub number: u32,
+    pub place: usize,
+    pub paired: usize,
+    pub only_first: usize,
+    pub only_second: usize,
+    pub differs: bool,
+    pub day: u32,
 }
 
 impl From<Result<u32, Refusal>> for Answer {
@@ -157,6 +175,33 @@ impl From<Result<LoggedFigures, Refusal>> for LoggedAnswer {
                 place: why.place,
                 average: 0,
                 holds: false,
+            },
+        }
+    }
+}
+
+impl From<Result<DipsFigures, Refusal>> for DipsAnswer {
+    ghost from_gives = { λ answer a. a ≡ exported_dips (answer_with dips_figures.no_figures answer) };
+
+    fn from(answer: Result<DipsFigures, Refusal>) -> DipsAnswer {
+        match answer {
+            Ok(a) => DipsAnswer {
+                number: 0,
+                place: 0,
+                paired: a.paired,
+                only_first: a.only_first,
+                only_second: a.only_second,
+                differs: a.first_differing.is_some(),
+                day: a.first_differing.unwrap_or(0),
+            },
+            Err(why) => DipsAnswer {
+                number: why.reason.number(),
+                place: why.place,
+                paired: 0,
+                only_first: 0,
+                only_second: 0,
+                differs: false,
+                day: 0,
             },
         }
     }
@@ -269,4 +314,29 @@ pub extern "C" fn peat_logged(
     ensures { result ≡ exported_logged (logged years strata densities.now areas.now discounts.now) }
 {
     LoggedAnswer::from(logging::logged(years, strata, densities, areas, discounts))
+}
+
+// Two recordings of the same wells held against each other: for each its days, depths and tolerances.
+#[unsafe(no_mangle)]
+pub extern "C" fn peat_dips(
+    first_days: &[u32],
+    first_depths: &[f32],
+    first_tolerances: &[f32],
+    second_days: &[u32],
+    second_depths: &[f32],
+    second_tolerances: &[f32],
+) -> DipsAnswer
+    ensures { result ≡ exported_dips (dips (recording_of first_days.now first_depths.now first_tolerances.now) (recording_of second_days.now second_depths.now second_tolerances.now)) }
+{
+    let first = Recording {
+        days: first_days,
+        depths: first_depths,
+        tolerances: first_tolerances,
+    };
+    let second = Recording {
+        days: second_days,
+        depths: second_depths,
+        tolerances: second_tolerances,
+    };
+    DipsAnswer::from(dips::dips(&first, &second))
 }

@@ -6,8 +6,8 @@ use Prim.Native.Nat.{ℕ, ◌^◌, ◌≤◌, ◌<◌}
 use native.Mathlib.Omega.{arith}
 use lib.Dec.{eqb, ltb, leb}
 use borrow.Author.Tests.{lt-ltb, leb-true, ltb-true, eqb-true}
-use Rattle.words.specs.Answers.{Answer, accepted, refused}
-use Rattle.words.specs.Refusals.{number_of, no_such_cell}
+use Rattle.words.specs.Answers.{Answer, accepted}
+use Rattle.words.specs.Refusals.{no_such_cell}
 use Rattle.words.proofs.Answers.{need_accepted, after_accepted, need_is, after_is, and_right}
 use Rattle.listing.specs.Layout.{cells, horizon}
 use Rattle.book.specs.Current.{current, admitted}

@@ -1,5 +1,5 @@
 -- Document 01, "Book and calls": what each call on a listing l and a book b answers, and what it leaves in the slices lent to it.
-use Rattle.std.specs.Prelude.{◌≡◌, ℕ, ◌+◌, ◌*◌, ◌≤◌, Bool, false, cond, not, ◌&&◌, ◌||◌, List, [], leb, ltb, eqb, length, get_or}
+use Rattle.std.specs.Prelude.{◌≡◌, ℕ, ◌+◌, ◌*◌, ◌≤◌, Bool, false, not, ◌&&◌, ◌||◌, List, [], leb, ltb, eqb, length, get_or}
 use Rattle.words.specs.Answers.{Answer, AnswerWith, accepted, need, after, with_figures}
 use Rattle.words.specs.Effect.{Effect, commit, commit_both}
 use Rattle.words.specs.Refusals.{no_such_cell, cell_withdrawn, cell_converted, year_not_ahead}

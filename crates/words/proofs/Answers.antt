@@ -103,7 +103,7 @@ module _ (n : ℕ) (k : ℕ) (next : Answer) where
   need_accepted true h = (refl, h)
   need_accepted false h = absurd (false≢true h)
 
-need_none_accepted : (n place end : ℕ) (next : Answer) → (need_none n place end next).done ≡ true → (end ≤ place) × (next.done ≡ true)
+pub need_none_accepted : (n place end : ℕ) (next : Answer) → (need_none n place end next).done ≡ true → (end ≤ place) × (next.done ≡ true)
 unfolding need_none
 need_none_accepted n place end next h = case (ltb place end) refl h
   where

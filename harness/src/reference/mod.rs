@@ -1,9 +1,10 @@
 //! The reference: the peat ledger in plain Rust, to be read beside document 01 ("the paper"), and
-//! "Guard and thickness as site figures", "Logged blocks", "Char left after a fire" and "A faster
-//! forecast" of document 02. Document 02 is quoted on the site word, its guard and least thickness,
-//! and the program's limit, on all of logged blocks, with the draft methodology's EQ34 and EQ48, on
-//! the char percentage, the emission to date and what a cell's kilogram lines add up to, and on the
-//! forecast's last total and what its numbers add up to; all else that is quoted is the paper's.
+//! "Guard and thickness as site figures", "Logged blocks", "Char left after a fire", "A faster
+//! forecast" and "Hand dips held against the logger" of document 02. Document 02 is quoted on the
+//! site word, its guard and least thickness, and the program's limit, on all of logged blocks, with
+//! the draft methodology's EQ34 and EQ48, on the char percentage, the emission to date and what a
+//! cell's kilogram lines add up to, on the forecast's last total and what its numbers add up to,
+//! and on all of hand dips; all else that is quoted is the paper's.
 //!
 //! It is written from these alone and shares no code with the other implementations, only the types
 //! of the answers. Words are converted to i128 when read, and back when written.
@@ -15,13 +16,16 @@
 //! - `book`, `lines`, `calls`, `balance`: "Book and calls", and the forecast, with the last total of
 //!   document 02;
 //! - `history`: "Lists of calls";
-//! - `stops`: "Where a call stops", and the numbers of document 02's "Logged blocks";
+//! - `stops`: "Where a call stops", and the numbers of document 02's "Logged blocks" and "Hand dips
+//!   held against the logger";
 //! - `readings`, `discount`, `program`: "Forecast, readings, discount, program";
-//! - `logging`: "Logged blocks" of document 02.
+//! - `logging`: "Logged blocks" of document 02;
+//! - `dips`: "Hand dips held against the logger" of document 02.
 
 mod balance;
 mod book;
 mod calls;
+mod dips;
 mod discount;
 mod history;
 mod lines;
@@ -34,6 +38,7 @@ mod words;
 mod year;
 
 pub use calls::{close, forecast, issue, open, replan, statement, withdraw};
+pub use dips::dips;
 pub use discount::discount;
 pub use history::{Fire, History};
 pub use listing::guard;

@@ -1,5 +1,5 @@
-//! "Where a call stops", and of document 02 the numbers 21 and 22: a function for each number,
-//! answering the lowest place where it is met.
+//! "Where a call stops", and of document 02 the numbers 21 to 24, and 16 and 17 of a dip: a
+//! function for each number, answering the lowest place where it is met.
 
 use super::book::{book_words, current_year, entry, word_is_valid};
 use super::lines::lines_words;
@@ -10,7 +10,7 @@ use super::listing::{
 use super::readings::{is_finite, lies_in, millimetres};
 use super::words::{at, index, length};
 use super::year::lines_of_year;
-use crate::{Answer, Reading};
+use crate::{Answer, Reading, Recording};
 
 /// "a kg line above 268,435,455"
 const GREATEST_KG_LINE: i128 = 268_435_455;
@@ -200,6 +200,30 @@ pub fn wrong_tables(t: i128, strata: i128, lists: [&[u32]; 3]) -> Option<i128> {
 /// 22, of document 02: "a value above 10,000, place its list", 0 to 2.
 pub fn value_above_10_000(lists: [&[u32]; 3]) -> Option<i128> {
     list_with_a_value_above(GREATEST_LOGGED_VALUE, &lists)
+}
+
+/// 23, of document 02: "the three lists of one recording differ in length", place 0, for none is
+/// named.
+pub fn lists_differ_in_length(recording: Recording) -> Option<i128> {
+    let days = length(recording.days);
+    let equal = length(recording.depths) == days && length(recording.tolerances) == days;
+    (!equal).then_some(0)
+}
+
+/// 24, of document 02: "days not strictly rising, place the later index".
+pub fn days_not_rising(recording: Recording) -> Option<i128> {
+    let days = recording.days;
+    (1..length(days)).find(|&place| at(days, place) <= at(days, place - 1))
+}
+
+/// 16 of a depth or a tolerance, of document 02: "both read as core depths", "place its index".
+pub fn dip_not_finite(metres: f32, place: i128) -> Option<i128> {
+    not_finite(Reading::Core(metres)).map(|_| place)
+}
+
+/// 17 of a depth or a tolerance, of document 02: "both read as core depths", "place its index".
+pub fn dip_out_of_range(metres: f32, place: i128) -> Option<i128> {
+    out_of_range(Reading::Core(metres)).map(|_| place)
 }
 
 /// The first list that has a value above the greatest.
