@@ -41,16 +41,21 @@
  *   13   replan                the new year is neither 0 nor current + 1 to horizon    0
  *   14   close                 a kg line above 268,435,455: proved not to arise        the cell
  *   15   forecast              output shorter than the horizon                         length of output
- *   16   core, levels          not a finite number                                     0: core or surface, 1: base
- *   17   core, levels          out of range                                            the same, 2: the difference
+ *   16   core, levels, dips    not a finite number                                     0: core or surface, 1: base;
+ *                                                                                      of dips the dip's index
+ *   17   core, levels, dips    out of range                                            the same, 2: the difference
  *   18   missing               there is no reading                                     0
  *   19   discount              list lengths unequal, or not 1 to 5                     0
  *   20   discount              a value above 20,000                                    the list, 0 to 3
  *   21   logged                years not 1 to 100, strata not 1 to 8, or a list not    0
  *                              as long as they ask
  *   22   logged                a value above 10,000                                    the list, 0 to 2
+ *   23   dips                  the lists of one recording differ in length             0
+ *   24   dips                  a day not above the one before                          index of the later day
  *
- * For a pair of levels 16 is tested on both before 17.
+ * For a pair of levels 16 is tested on both before 17. For dips 23 and 24 come before 16 and 17, and the readings are
+ * tested one after the other, each for 16 and then for 17: the first recording before the second, by index, a depth
+ * before its tolerance.
  */
 #ifndef PEAT_H
 #define PEAT_H
@@ -95,6 +100,19 @@ typedef struct {
     uint32_t average;
     bool holds;
 } peat_logged_answer;
+
+/*
+ * Two recordings held against each other: how many days are in both, in the first alone and in the second alone, and
+ * whether the two dips of a day in both differ. day: the first such day, 0 where there is none; `differs` tells, since
+ * a day's number may be 0.
+ */
+typedef struct {
+    uint32_t number;
+    size_t place;
+    size_t paired, only_first, only_second;
+    bool differs;
+    uint32_t day;
+} peat_dips_answer;
 
 /* Writes a new book: year 0, nothing issued, the plan years of the listing, no losses. Whatever it held is overwritten. */
 peat_answer peat_open(const uint32_t *listing, size_t listing_len, uint32_t *book, size_t book_len);
@@ -160,6 +178,18 @@ peat_answer peat_discount(const uint32_t *first_widths, size_t first_widths_len,
 peat_logged_answer peat_logged(uint32_t years, uint32_t strata, const uint32_t *densities, size_t densities_len,
                                const uint32_t *areas, size_t areas_len, const uint32_t *discounts,
                                size_t discounts_len);
+
+/*
+ * Hand dips held against a logger's recording of the same well, or any two recordings. Each is three lists of one
+ * length, which may be 0: day numbers, each above the one before; depths and tolerances, metres of 0 to 20, of which the
+ * whole mm count, rounded down. A day is paired with the same day of the other recording. Its two dips differ if their
+ * mm differ by more than the mm of both tolerances together. A refused call has differs false too: look at the number
+ * first. The place of a refusal does not tell whose it is: the first recording is tested before the second at each step.
+ */
+peat_dips_answer peat_dips(const uint32_t *first_days, size_t first_days_len, const float *first_depths,
+                           size_t first_depths_len, const float *first_tolerances, size_t first_tolerances_len,
+                           const uint32_t *second_days, size_t second_days_len, const float *second_depths,
+                           size_t second_depths_len, const float *second_tolerances, size_t second_tolerances_len);
 
 #ifdef __cplusplus
 }
