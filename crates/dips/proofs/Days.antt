@@ -15,12 +15,12 @@ use Rattle.words.proofs.Meaning.{first_only}
 use Rattle.words.proofs.Answers.{need_accepted, need_all_accepted}
 use Rattle.dips.specs.Dips.{Recorded, day, dip, dip_of_day, differ, day_differs, has_day, paired_days, unpaired_days, figures_of, dips_checked}
 use Rattle.dips.specs.declared.DipsFigures.{DipsFigures}
-use Rattle.dips.specs.Bounds.{Even}
+use Rattle.dips.specs.Bounds.{Regular}
 use Rattle.dips.proofs.Pairing.{Rising, by_places, both_same}
 
-pub even_by : (first second : Recorded) → (dips_checked first second).done ≡ true → Even first × Even second
+pub regular_by : (first second : Recorded) → (dips_checked first second).done ≡ true → Regular first × Regular second
 unfolding dips_checked
-even_by first second h =
+regular_by first second h =
     let one = need_accepted _ _ _ _ h in
     let other = need_accepted _ _ _ _ one.1 in
     let days = need_all_accepted _ _ _ _ _ other.1 in
@@ -28,7 +28,7 @@ even_by first second h =
     (record { lengths = one.0; rising = days.0 }, record { lengths = other.0; rising = more.0 })
 
 -- ---- a day by its place
-module _ {r : Recorded} (e : Even r) where
+module _ {r : Recorded} (e : Regular r) where
   pub rising : Rising r.days
   rising = by_places r.days e.rising
 
@@ -54,7 +54,7 @@ module _ {r : Recorded} (e : Even r) where
       })))
 
 -- whether the two dips of a day differ
-pub day_differs_is : {first second : Recorded} → Even first → Even second → (i j : ℕ) → i < length first.days → j < length second.days → day first i ≡ day second j →
+pub day_differs_is : {first second : Recorded} → Regular first → Regular second → (i j : ℕ) → i < length first.days → j < length second.days → day first i ≡ day second j →
     day_differs first second (day first i) ≡ differ (dip first i) (dip second j)
 day_differs_is {first} {second} e f i j lt more same = ap₂ differ (dip_there e i lt) (ap (dip_of_day second) same ∙ dip_there f j more)
 
@@ -64,7 +64,7 @@ day_differs_is {first} {second} e f i j lt more same = ap₂ differ (dip_there e
 pub counts : (first second : Recorded) → length (paired_days first second) + length (unpaired_days first second) ≡ length first.days
 counts first second = length-filter_both (has_day second) (λ d. not (has_day second d)) (λ d. refl) first.days
 
-module _ {first second : Recorded} (e : Even first) (f : Even second) where
+module _ {first second : Recorded} (e : Regular first) (f : Regular second) where
   pub paired_same : paired_days first second ≡ paired_days second first
   paired_same = both_same first.days second.days (rising e) (rising f)
 

@@ -18,9 +18,9 @@ use Rattle.words.proofs.Answers.{after_accepted, after_is, need_accepted, need_n
 use Rattle.dips.specs.Dips.{Recorded, day, dip, mm_of, differ, dip_of_day, has_day, day_differs, paired_days, figures_of, dips_checked, dips}
 use Rattle.dips.specs.Pairing.{Paired, FirstDiffering, Pairing, Exchanged, EveryPairing}
 use Rattle.dips.specs.declared.Dip.{Dip}
-use Rattle.dips.specs.Bounds.{Even}
+use Rattle.dips.specs.Bounds.{Regular}
 use Rattle.dips.proofs.Readings.{passed_is}
-use Rattle.dips.proofs.Days.{even_by, days_rise, day_differs_is, counts, counts_second, paired_same}
+use Rattle.dips.proofs.Days.{regular_by, days_rise, day_differs_is, counts, counts_second, paired_same}
 
 -- ---- the first number of a list that passes a test
 record Found (r : ℕ → Bool) (xs : List ℕ) (d : ℕ) : Type 0 where
@@ -82,7 +82,7 @@ place_of d (x ∷ xs) h = go (eqb d x) refl h (place_of d xs)
     go true e h rest = record { at = 0; inside = omega arith; is = sym (eqb-true d x e) }
     go false e h rest = let p = rest h in record { at = suc p.at; inside = omega (arith, p.inside); is = p.is }
 
-module _ {first second : Recorded} (e : Even first) (f : Even second) where
+module _ {first second : Recorded} (e : Regular first) (f : Regular second) where
   -- the day that both dips have passes both tests
   abbrev in_both : ℕ → Bool
   in_both d = has_day second d && day_differs first second d
@@ -144,22 +144,22 @@ exchanged_done first second h =
     (passed_is first 0 (length first.days) readings.0 ∙ after_is _ _ readings.1))))
 
 module _ (first second : Recorded) (h : (dips_checked first second).done ≡ true) where
-  even : Even first × Even second
-  even = even_by first second h
+  regular : Regular first × Regular second
+  regular = regular_by first second h
 
   exchanged_day : find (day_differs second first) (paired_days second first) ≡ find (day_differs first second) (paired_days first second)
   exchanged_day =
       find_same (day_differs second first) (day_differs first second) (λ d. differ_same (dip_of_day first d) (dip_of_day second d)) (paired_days second first)
-      ∙ ap (find (day_differs first second)) (sym (paired_same even.0 even.1))
+      ∙ ap (find (day_differs first second)) (sym (paired_same regular.0 regular.1))
 
   pairing : Pairing first second (figures_of first second)
   unfolding figures_of
   pairing =
       record {
         all_first = counts first second;
-        all_second = counts_second even.0 even.1;
-        day_found = day_first even.0 even.1;
-        none_found = day_none even.0 even.1;
+        all_second = counts_second regular.0 regular.1;
+        day_found = day_first regular.0 regular.1;
+        none_found = day_none regular.0 regular.1;
       }
 
   exchanged : Exchanged (dips first second) (dips second first)
@@ -169,7 +169,7 @@ module _ (first second : Recorded) (h : (dips_checked first second).done ≡ tru
       let there : accepted 0 ≡ dips_checked second first = exchanged_done first second h in
       record {
         answer = sym there ∙ here;
-        paired = rw (← here, ← there) (ap (λ (ds : List ℕ). length ds) (sym (paired_same even.0 even.1)));
+        paired = rw (← here, ← there) (ap (λ (ds : List ℕ). length ds) (sym (paired_same regular.0 regular.1)));
         only_first = rw (← here, ← there) refl;
         only_second = rw (← here, ← there) refl;
         first_differing = rw (← here, ← there) exchanged_day;

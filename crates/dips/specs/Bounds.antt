@@ -8,6 +8,6 @@ abbrev pub most_mm : ℕ
 most_mm = 1000 * most_core
 
 -- a recording that passes the tests of its lengths and its days
-pub record Even (r : Recorded) : Type 0 where
+pub record Regular (r : Recorded) : Type 0 where
   pub lengths : same_length r ≡ true
   pub rising : (k : ℕ) → 1 ≤ k → k < length r.days → above_before r k ≡ true

@@ -8,7 +8,7 @@ ghost use Rattle.reading.specs.Depth.{core};
 ghost use Rattle.words.specs.Search.{first_invalid};
 ghost use Rattle.dips.specs.Dips.{recorded, same_length, above_before, dip, metres_checked, dip_checked, all_readings_checked, dips_checked};
 ghost use Rattle.dips.specs.Dips.{mm_of, differ, no_figures, figures_of, dips};
-ghost use Rattle.dips.specs.Bounds.{most_mm, Even};
+ghost use Rattle.dips.specs.Bounds.{most_mm, Regular};
 
 use words::{Reason, Refusal, first_invalid, need};
 
@@ -37,7 +37,7 @@ pub struct DipsFigures {
     pub first_differing: Option<u32>,
 }
 
-// A reading that gives no core depth is refused at the place of its dip.
+// Numbers 16 and 17 of one reading, as `core` gives them, but at the place of its dip.
 fn check_reading(metres: f32, place: usize) -> Result<(), Refusal>
     ensures { outcome result ≡ metres_checked place metres }
 {
@@ -55,7 +55,7 @@ fn check_dip(dip: Dip, place: usize) -> Result<(), Refusal>
     check_reading(dip.tolerance, place)
 }
 
-// The millimetres of a reading that is a core depth.
+// The millimetres of a reading that is a core depth; of a refused one 0, which is not asked for.
 fn mm_of(metres: f32) -> u32
     ensures value { result ≡ mm_of metres }
     ensures bound { result ≤ most_mm }
@@ -72,7 +72,7 @@ fn differ(first: Dip, second: Dip) -> bool
 }
 
 // The pairing step: the day found before, or this one if its two dips differ.
-fn or_day(found: Option<u32>, day: u32, first: Dip, second: Dip) -> Option<u32>
+fn first_found(found: Option<u32>, day: u32, first: Dip, second: Dip) -> Option<u32>
     ensures { result ≡ option_or found (cond (differ first second) (Some day) None) }
 {
     if found.is_none() && differ(first, second) {
@@ -102,7 +102,7 @@ impl Recording<'_> {
     }
 
     // The first day that is not above the one before; where there is none, the length, or 1 where
-    // there is no day.
+    // there is no day: a search from 1 to 0 would run backwards.
     #[tactic(auto, using(words::proofs::Steps::passed_none, words::proofs::Steps::passed_all))]
     fn first_day_not_above(&self) -> usize
         ensures { result ≡ first_invalid (above_before (recorded self.now)) 1 (length self.now.days.now) }
@@ -149,7 +149,7 @@ fn check(first: &Recording<'_>, second: &Recording<'_>) -> Result<(), Refusal>
 
 // Walks both recordings once, together: of two days that differ the lower one is in one recording alone.
 fn pair(first: &Recording<'_>, second: &Recording<'_>) -> DipsFigures
-    requires { Even (recorded first.now) × Even (recorded second.now) }
+    requires { Regular (recorded first.now) × Regular (recorded second.now) }
     ensures { result ≡ figures_of (recorded first.now) (recorded second.now) }
 {
     let mut i = 0;
@@ -164,7 +164,7 @@ fn pair(first: &Recording<'_>, second: &Recording<'_>) -> DipsFigures
         } else if b < a {
             j += 1;
         } else {
-            first_differing = or_day(first_differing, a, first.dip(i), second.dip(j));
+            first_differing = first_found(first_differing, a, first.dip(i), second.dip(j));
             paired += 1;
             i += 1;
             j += 1;

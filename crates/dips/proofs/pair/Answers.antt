@@ -14,7 +14,7 @@ pub loop-i-preserved : goal.loop-i-preserved
 loop-i-preserved c =
     let same : get_or c.args.first.now.days.now c.loop-i.i 0 ≡ get_or c.args.second.now.days.now c.loop-i.j 0 = omega (arith, c.if-a-b.false, c.if-b-a.false) in
     walked_both _ _ _ _ _ _ _ c.loop-i.invariant c.loop-i-test.true c.if-j-second.true same _
-    (rw (day_differs_is c.requires.0 c.requires.1 _ _ c.loop-i-test.true c.if-j-second.true same) (rw (c.dip.ensures, c.dip-else-b-a.ensures) at c.or_day-first_differing.ensures))
+    (rw (day_differs_is c.requires.0 c.requires.1 _ _ c.loop-i-test.true c.if-j-second.true same) (rw (c.dip.ensures, c.dip-else-b-a.ensures) at c.first_found-first_differing.ensures))
 
 pub loop-i-preserved-then-a-b : goal.loop-i-preserved-then-a-b
 loop-i-preserved-then-a-b c = walked_first _ _ _ _ _ _ _ c.loop-i.invariant c.loop-i-test.true c.if-j-second.true c.if-a-b.true
