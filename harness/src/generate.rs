@@ -1,7 +1,8 @@
-//! Listings, books, calls, floats, pools and logged blocks by a small generator (splitmix64), good and damaged.
+//! Listings, books, calls, floats, pools, logged blocks and recordings by a small generator (splitmix64), good and
+//! damaged.
 use crate::met::PAST;
 use crate::site::{part, Cell, Row, Site, SiteWord, YearlyTerm};
-use crate::Reading;
+use crate::{Reading, Recording};
 
 pub struct Random(pub u64);
 
@@ -784,4 +785,226 @@ fn value_too_large(random: &mut Random, blocks: &mut LoggedBlocks) {
     let any = random.below(list.len());
     let place = random.pick(&[0, list.len() - 1, any]);
     list[place] = random.pick(&[MOST + 1, 1 << 16, u32::MAX]);
+}
+
+/// A recording of a well, with lists of its own.
+#[derive(Clone, Debug, Default)]
+pub struct OwnedRecording {
+    pub days: Vec<u32>,
+    pub depths: Vec<f32>,
+    pub tolerances: Vec<f32>,
+}
+
+impl OwnedRecording {
+    pub fn lent(&self) -> Recording<'_> {
+        Recording {
+            days: &self.days,
+            depths: &self.depths,
+            tolerances: &self.tolerances,
+        }
+    }
+
+    fn push(&mut self, day: u32, dip: Dip) {
+        self.days.push(day);
+        self.depths.push(dip.depth);
+        self.tolerances.push(dip.tolerance);
+    }
+}
+
+/// In metres.
+struct Dip {
+    depth: f32,
+    tolerance: f32,
+}
+
+/// The greatest mm of a depth or a tolerance.
+const DEEPEST: u32 = 20_000;
+
+/// Mostly good, and often with the two dips of a day just as far apart as their tolerances let them be, or 1 mm more.
+pub fn recordings(random: &mut Random) -> [OwnedRecording; 2] {
+    let mut recordings = good_recordings(random);
+    if random.once_in(3) {
+        // Each fault by itself, or some of them together.
+        for _ in 0..random.pick(&[1, 1, 2, 3]) {
+            let recording = &mut recordings[random.below(2)];
+            match random.between(0, 5) {
+                0 => wrong_length(random, recording),
+                1 | 2 => wrong_day(random, recording),
+                _ => any_readings(random, recording),
+            }
+        }
+    }
+    recordings
+}
+
+/// What each day is drawn from: 0 is in the first alone, 1 in the second alone, 2 in both.
+const SHARES: [&[usize]; 8] = [
+    &[0],
+    &[1],
+    &[2],
+    &[0, 1],
+    &[0, 2, 2],
+    &[1, 2, 2],
+    &[0, 1, 2, 2],
+    &[0, 1, 2, 2, 2, 2, 2, 2],
+];
+
+/// Mostly a few days; of those in both, the first that differs is often a later one.
+fn good_recordings(random: &mut Random) -> [OwnedRecording; 2] {
+    let count = match random.between(0, 1_999) {
+        0 => random.between(1_001, 2_000),
+        _ => random.between(0, 12),
+    };
+    let shares = random.pick(&SHARES);
+    let differing = random.pick(&[1, 2, 5, 1_000]);
+    let mut first = OwnedRecording::default();
+    let mut second = OwnedRecording::default();
+    for day in rising_days(random, count) {
+        match random.pick(shares) {
+            0 => first.push(day, any_dip(random)),
+            1 => second.push(day, any_dip(random)),
+            _ => {
+                let [one, other] = dips_of_a_day(random, differing);
+                first.push(day, one);
+                second.push(day, other);
+            }
+        }
+    }
+    [first, second]
+}
+
+/// Close together or far apart, from 0, from just above it or from any day on, or up to 4,294,967,295 in the same way.
+fn rising_days(random: &mut Random, count: u32) -> Vec<u32> {
+    let any = random.word() >> 1;
+    let mut day = random.pick(&[0, 1, any]);
+    let step = random.pick(&[1, 3, 1_000_000]);
+    let mut days = Vec::new();
+    for _ in 0..count {
+        days.push(day);
+        // No day passes 2^31 + 2,000 × 10^6, which 32 bits hold.
+        day += random.between(1, step);
+    }
+    if random.once_in(2) {
+        days = days.iter().rev().map(|day| u32::MAX - day).collect();
+    }
+    if random.once_in(5) && days.first().is_some_and(|&day| day > 0) {
+        days.insert(0, 0);
+    }
+    if random.once_in(5) && days.last().is_some_and(|&day| day < u32::MAX) {
+        days.push(u32::MAX);
+    }
+    days
+}
+
+fn any_dip(random: &mut Random) -> Dip {
+    let [depth, tolerance] = [DEEPEST, 300].map(|most| figure(random, 0, most));
+    Dip {
+        depth: metres(random, depth),
+        tolerance: metres(random, tolerance),
+    }
+}
+
+/// The two dips of a day: one in so many goes beyond the tolerances together, unless these leave no room.
+fn dips_of_a_day(random: &mut Random, differing: u32) -> [Dip; 2] {
+    let most = random.pick(&[0, 3, 300, 300, DEEPEST]);
+    let tolerances = [most; 2].map(|most| figure(random, 0, most));
+    let together = tolerances[0] + tolerances[1];
+    let far = random.between(1, DEEPEST);
+    let within = random.between(0, together);
+    let apart = if random.once_in(differing) {
+        together + random.pick(&[1, 1, far])
+    } else {
+        random.pick(&[together, within])
+    };
+    let apart = apart.min(DEEPEST);
+    let shallow = figure(random, 0, DEEPEST - apart);
+    let mut depths = [shallow, shallow + apart];
+    if random.once_in(2) {
+        depths.reverse();
+    }
+    [0, 1].map(|which: usize| Dip {
+        depth: metres(random, depths[which]),
+        tolerance: metres(random, tolerances[which]),
+    })
+}
+
+/// A float of so many whole mm: the least of them, the greatest or any.
+fn metres(random: &mut Random, millimetres: u32) -> f32 {
+    if millimetres == 0 && random.once_in(10) {
+        return -0.0;
+    }
+    let least = least_metres(millimetres).to_bits();
+    // Floats from 0 on rise with their bits.
+    let greatest = match millimetres {
+        DEEPEST => least,
+        _ => least_metres(millimetres + 1).to_bits() - 1,
+    };
+    let any = random.between(least, greatest);
+    f32::from_bits(random.pick(&[least, greatest, any]))
+}
+
+/// The least float of so many whole mm.
+fn least_metres(millimetres: u32) -> f32 {
+    let thousandfold = f64::from(millimetres);
+    let nearest = (thousandfold / 1_000.0) as f32;
+    // 24 bits times 1,000 fit the 53 bits of an f64.
+    if f64::from(nearest) * 1_000.0 < thousandfold {
+        nearest.next_up()
+    } else {
+        nearest
+    }
+}
+
+/// One list longer or shorter than it was; days that are added do not always rise.
+fn wrong_length(random: &mut Random, recording: &mut OwnedRecording) {
+    let by = random.pick(&[1, 1, 2, 12]);
+    let longer = random.once_in(2);
+    let changed = |length: usize| {
+        if longer {
+            length + by
+        } else {
+            length.saturating_sub(by)
+        }
+    };
+    let OwnedRecording {
+        days,
+        depths,
+        tolerances,
+    } = recording;
+    match random.below(3) {
+        0 => days.resize(changed(days.len()), u32::MAX),
+        1 => depths.resize(changed(depths.len()), 1.0),
+        _ => tolerances.resize(changed(tolerances.len()), 0.0),
+    }
+}
+
+/// A day that is the one before, or lower.
+fn wrong_day(random: &mut Random, recording: &mut OwnedRecording) {
+    let days = &mut recording.days;
+    if days.len() < 2 {
+        return;
+    }
+    let place = 1 + random.below(days.len() - 1);
+    match random.between(0, 3) {
+        0 | 1 => days[place] = days[place - 1],
+        2 => days.swap(place - 1, place),
+        _ => days[place] = random.between(0, days[place - 1]),
+    }
+}
+
+/// Any floats for the depth of a dip, its tolerance or both.
+fn any_readings(random: &mut Random, recording: &mut OwnedRecording) {
+    let place = random.below(recording.days.len().max(1));
+    let spared = random.below(3);
+    let lists = [&mut recording.depths, &mut recording.tolerances];
+    for (which, list) in lists.into_iter().enumerate() {
+        if which == spared {
+            continue;
+        }
+        if let Some(reading) = list.get_mut(place) {
+            let not_finite = random.pick(&[f32::NAN, f32::INFINITY, f32::NEG_INFINITY]);
+            let any = float(random);
+            *reading = random.pick(&[not_finite, any, any]);
+        }
+    }
 }

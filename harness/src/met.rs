@@ -34,6 +34,7 @@ const GROUPS: &[(&str, &[&str])] = &[
     ("missing", &["18"]),
     ("discount", &["accepted", "19", "20"]),
     ("logged", &["accepted", "21", "22"]),
+    ("dips", &["accepted", "16", "17", "23", "24"]),
     (
         "accepted forecast",
         &[
@@ -110,6 +111,16 @@ const GROUPS: &[(&str, &[&str])] = &[
             "8 before 9 to 13",
             "21 before 22",
             "22 in several lists",
+            "23 before 24",
+            "23 of the second before 24 of the first",
+            "24 of the first before 24 of the second",
+            "24 of several days in a recording",
+            "24 before 16 or 17",
+            "24 of the second before 16 or 17 of the first",
+            "17 of a depth before 16 of its tolerance",
+            "17 of an earlier dip before 16 of a later one",
+            "16 or 17 of the first before one of the second",
+            "16 or 17 of the first before a lower index of the second",
         ],
     ),
     (
@@ -286,6 +297,69 @@ const GROUPS: &[(&str, &[&str])] = &[
             "the strata in another order",
         ],
     ),
+    (
+        "23 by",
+        &[
+            "too few days of the first",
+            "too many days of the first",
+            "too few depths of the first",
+            "too many depths of the first",
+            "too few tolerances of the first",
+            "too many tolerances of the first",
+            "three lengths of the first",
+            "too few days of the second",
+            "too many days of the second",
+            "too few depths of the second",
+            "too many depths of the second",
+            "too few tolerances of the second",
+            "too many tolerances of the second",
+            "three lengths of the second",
+        ],
+    ),
+    (
+        "24 by",
+        &[
+            "equal days of the first",
+            "falling days of the first",
+            "equal days of the second",
+            "falling days of the second",
+        ],
+    ),
+    ("16 of dips by", READINGS),
+    ("17 of dips by", READINGS),
+    ("depth or tolerance of", FLOATS),
+    (
+        "dips with",
+        &[
+            "both empty",
+            "the first empty",
+            "the second empty",
+            "no day in common",
+            "every day in common",
+            "a day of one alone between days of the other",
+            "day 0",
+            "day 4,294,967,295",
+            "a recording of more than 1,000 days",
+            "none differs",
+            "the first pair differs",
+            "only a later pair differs",
+            "several pairs differ",
+            "day 0 differs first",
+            "mm that differ by just the tolerances together",
+            "mm that differ by 1 mm more",
+            "the first deeper where they differ",
+            "the second deeper where they differ",
+            "metres not rounded would answer otherwise",
+        ],
+    ),
+];
+
+/// A reading of two recordings, by the recording that it is in.
+const READINGS: &[&str] = &[
+    "a depth of the first",
+    "a tolerance of the first",
+    "a depth of the second",
+    "a tolerance of the second",
 ];
 
 /// A figure of a listing just past an end of its range; `generate::past_range` makes each.
@@ -400,9 +474,9 @@ impl Met {
         }
     }
 
-    /// How many answers were counted: the groups down to the logged blocks are calls.
+    /// How many answers were counted: the groups down to that of two recordings are calls.
     pub fn cases(&self) -> u64 {
-        let calls = GROUPS.iter().position(|(name, _)| *name == "logged");
+        let calls = GROUPS.iter().position(|(name, _)| *name == "dips");
         self.0[..=calls.unwrap()].iter().flatten().sum()
     }
 

@@ -1,9 +1,11 @@
 //! The worked figures of document 01 and of the requests, the ends of lengths and readings, and the claims on lists where they fail.
-use harness::generate::{self, Random};
+use harness::generate::{self, OwnedRecording, Random};
 use harness::reference::{self, History};
 use harness::sample::{with_site_word, worked_with, CHAR_WORD, NEGATIVE_TERM, SITE_WORD, WORKED};
 use harness::site::{Cell, Row, Site, SiteWord, LINE_WORDS};
-use harness::{Account, Answer, Ledger, LoggedAnswer, Reading, Total, PROVED, REFERENCE};
+use harness::{
+    Account, Answer, DipsAnswer, Ledger, LoggedAnswer, Reading, Total, PROVED, REFERENCE,
+};
 
 fn both(check: impl Fn(&Ledger)) {
     check(&REFERENCE);
@@ -658,6 +660,210 @@ fn refused_values_of_logged_blocks() {
         lists[2].pop();
         assert_eq!(run(&lists), logged_refused(21, 0));
     });
+}
+
+/// The items of a list, with blanks between; "x^3" is x three times.
+fn items(list: &str) -> Vec<&str> {
+    let items = list.split_whitespace().flat_map(|item| {
+        let (item, times) = item.split_once('^').unwrap_or((item, "1"));
+        vec![item; times.parse().unwrap()]
+    });
+    items.collect()
+}
+
+/// A number, or after "#" the bits of a binary32.
+fn metres(item: &str) -> f32 {
+    match item.strip_prefix('#') {
+        Some(bits) => f32::from_bits(u32::from_str_radix(bits, 16).unwrap()),
+        None => item.parse().unwrap(),
+    }
+}
+
+/// "days; depths; tolerances".
+fn recording(text: &str) -> OwnedRecording {
+    let lists: Vec<Vec<&str>> = text.split(';').map(items).collect();
+    let [days, depths, tolerances] = &lists[..] else {
+        panic!("not three lists: {text}")
+    };
+    OwnedRecording {
+        days: days.iter().map(|day| day.parse().unwrap()).collect(),
+        depths: depths.iter().map(|item| metres(item)).collect(),
+        tolerances: tolerances.iter().map(|item| metres(item)).collect(),
+    }
+}
+
+/// The days in both, in the first alone and in the second alone, and the first that differs or "-"; or a number "at" a
+/// place.
+fn dips_answer(text: &str) -> DipsAnswer {
+    let words: Vec<&str> = text.split_whitespace().collect();
+    let count = |word: &str| word.parse::<usize>().unwrap();
+    if let [number, "at", place] = words[..] {
+        return DipsAnswer {
+            number: number.parse().unwrap(),
+            place: count(place),
+            ..DipsAnswer::default()
+        };
+    }
+    let [paired, only_first, only_second, day] = words[..] else {
+        panic!("no answer: {text}")
+    };
+    let differs = day != "-";
+    DipsAnswer {
+        paired: count(paired),
+        only_first: count(only_first),
+        only_second: count(only_second),
+        differs,
+        day: if differs { day.parse().unwrap() } else { 0 },
+        ..DipsAnswer::default()
+    }
+}
+
+/// Each row has two recordings with "|" between, and after "->" the answer.
+fn answers_of_dips(rows: &[&str]) {
+    for row in rows {
+        let (recordings, answer) = row.split_once("->").unwrap();
+        let (first, second) = recordings.split_once('|').unwrap();
+        let (first, second) = (recording(first), recording(second));
+        both(|ledger| {
+            let answered = (ledger.dips)(first.lent(), second.lent());
+            assert_eq!(answered, dips_answer(answer), "{row}");
+        });
+    }
+}
+
+#[test]
+fn days_of_two_recordings() {
+    answers_of_dips(&[
+        ";; | ;; -> 0 0 0 -",
+        ";; | 1 2; 1 2; 0^2 -> 0 0 2 -",
+        "1 2 9; 1 2 3; 0^3 | ;; -> 0 3 0 -",
+        "3 5 8; 0.5 1.25 20; 0^3 | 3 5 8; 0.5 1.25 20; 0^3 -> 3 0 0 -",
+        "1 3 5; 0^3; 0^3 | 0 2 4 6; 20^4; 0^4 -> 0 3 4 -",
+        "10; 1; 0 | 1 2 3 10 11; 0 0 0 1 0; 0^5 -> 1 0 4 -",
+        // The greatest day differs, then day 0.
+        "0 4294967295; 1 2; 0^2 | 0 4294967295; 1 3; 0^2 -> 2 0 0 4294967295",
+        "0 4294967295; 1 2; 0^2 | 0 4294967295; 3 2; 0^2 -> 2 0 0 0",
+        "0 7; 1 1; 0^2 | 7 4294967295; 1 1; 0^2 -> 1 1 1 -",
+        // Day 2^31.
+        "2147483647 2147483648; 1 1; 0^2 | 2147483648 4294967295; 2 0; 0^2 -> 1 1 1 2147483648",
+        // Of days 2, 4 and 7 the last two differ.
+        "1 2 4 7; 1 1 2 2; 0^4 | 2 3 4 7 9; 1 9 2.5 9 9; 0^5 -> 3 1 2 4",
+        // The dips at each place differ, but not those of day 2.
+        "1 2; 9 1; 0^2 | 2 3; 1 0; 0^2 -> 1 1 1 -",
+    ]);
+}
+
+/// 3F7FFFFF and 3E7FFFFF are just below 1 and a quarter, 419FFFFF just below 20; 3F333333 is 699 mm.
+#[test]
+fn dips_at_their_limit() {
+    answers_of_dips(&[
+        // 500 mm apart, and 501.
+        "4; 1.5; 0.25 | 4; 1; 0.25 -> 1 0 0 -",
+        "4; 1.5; 0.25 | 4; #3F7FFFFF; 0.25 -> 1 0 0 4",
+        "4; #3F7FFFFF; 0.25 | 4; 1.5; 0.25 -> 1 0 0 4",
+        // Tolerances of 250 and 249 mm.
+        "4; 1.5; 0.25 | 4; 1; #3E7FFFFF -> 1 0 0 4",
+        // 199 mm apart: tolerances of 199, of 198, of 125 and 74, of 125 and 73.
+        "4; #3F333333; 0 | 4; 0.5; #3E4BC6A8 -> 1 0 0 -",
+        "4; #3F333333; 0 | 4; 0.5; #3E4BC6A7 -> 1 0 0 4",
+        "4; #3F333333; 0.125 | 4; 0.5; 0.0745 -> 1 0 0 -",
+        "4; #3F333333; 0.125 | 4; 0.5; 0.0735 -> 1 0 0 4",
+        // A tolerance of 699 mm for 699 and for 700.
+        "4; 0; 0 | 4; #3F333333; #3F333333 -> 1 0 0 -",
+        "4; 0; 0 | 4; 0.7005; #3F333333 -> 1 0 0 4",
+        // The greatest difference with the greatest tolerance, and 1 mm less.
+        "4; 0; 0 | 4; 20; 20 -> 1 0 0 -",
+        "4; 0; 0 | 4; 20; #419FFFFF -> 1 0 0 4",
+        // Subnormal numbers are 0 mm, and so is 0.9 mm; 1.5 mm are 1.
+        "4; -0; -0 | 4; 0; -0 -> 1 0 0 -",
+        "4; #00000001; #007FFFFF | 4; 0.0009; 0 -> 1 0 0 -",
+        "4; #00000001; #007FFFFF | 4; 0.0015; 0 -> 1 0 0 4",
+        // Two tolerances of half a mm are none.
+        "4; 0.0005; 0.0005 | 4; 0.0015; 0.0005 -> 1 0 0 4",
+        // 1,001 and 1,002 mm with a tolerance of 1.
+        "4; 1.0015; 0 | 4; 1.0025; 0.0015 -> 1 0 0 -",
+    ]);
+}
+
+#[test]
+fn refused_lengths_of_recordings() {
+    answers_of_dips(&[
+        "1;; | ;; -> 23 at 0",
+        "; 1; | ;; -> 23 at 0",
+        ";; 1 | ;; -> 23 at 0",
+        "1 2; 1 1; 1 | ;; -> 23 at 0",
+        "1 2; 1; 1 1 | ;; -> 23 at 0",
+        "1; 1 1; 1 1 | ;; -> 23 at 0",
+        ";; | 1 2; 1 1; 1^3 -> 23 at 0",
+        // Of the second, before days and readings of the first.
+        "5 5; NaN^2; NaN^2 | 1; 1; -> 23 at 0",
+        // The two recordings may differ in length.
+        "1; 1; 1 | 1 2; 1 1; 0 0 -> 1 0 1 -",
+    ]);
+}
+
+#[test]
+fn refused_days_of_recordings() {
+    answers_of_dips(&[
+        "5 5; 1^2; 0^2 | ;; -> 24 at 1",
+        "0 0; 1^2; 0^2 | ;; -> 24 at 1",
+        ";; | 4294967295 0; 1^2; 0^2 -> 24 at 1",
+        // The first of several.
+        "5 6 6 2; 1^4; 0^4 | ;; -> 24 at 2",
+        "1 3 2 4 4; 1^5; 0^5 | ;; -> 24 at 2",
+        // The first recording before the second, and both before any reading.
+        "1 2 3 3; 1^4; 0^4 | 9 8; 1^2; 0^2 -> 24 at 3",
+        "1; NaN; -1 | 0 1 0; 1^3; 0^3 -> 24 at 2",
+    ]);
+}
+
+/// 41A00001 is just above 20, 80000001 just below 0; FFC00001 and 7F800001 are NaNs.
+#[test]
+fn refused_readings_of_recordings() {
+    answers_of_dips(&[
+        "1; NaN; 0 | ;; -> 16 at 0",
+        "1; #7F800001; 0 | ;; -> 16 at 0",
+        "1; 0; inf | ;; -> 16 at 0",
+        "1 2; 0 -inf; 0 0 | ;; -> 16 at 1",
+        ";; | 1 2 3; 0^3; 0 0 #FFC00001 -> 16 at 2",
+        "1; -0.0001; 0 | ;; -> 17 at 0",
+        "1 2; 0 0; 0 #80000001 | ;; -> 17 at 1",
+        "1 2; 20 #41A00001; 20 0 | ;; -> 17 at 1",
+        ";; | 1 2; 20 20; 20 #41A00001 -> 17 at 1",
+        // Subnormal numbers above 0, and -0, are in range.
+        "7; #007FFFFF; #00000001 | 7; -0; 0 -> 1 0 0 -",
+        // 17 before a later 16; a depth before its tolerance, and a tolerance before a later depth.
+        "1 2; 20.5 NaN; 0 0 | ;; -> 17 at 0",
+        "1 2; 0 NaN; -1 0 | ;; -> 17 at 0",
+        "1; -1; NaN | ;; -> 17 at 0",
+        "1; NaN; -1 | ;; -> 16 at 0",
+        // The first recording before the second, whatever the places.
+        "1 2; 0 0; 0 21 | 1; NaN; 0 -> 17 at 1",
+        "1 2; 0 NaN; 0 0 | 1; -1; 0 -> 16 at 1",
+        // Days in one alone are read too, and those after the first that differs.
+        "7; 1; 0 | 8; #7F7FFFFF; 0 -> 17 at 0",
+        "7; 1; 0 | 7 8; 9 1; 0 NaN -> 16 at 1",
+    ]);
+}
+
+/// Every second day and every third: day 6,000 is 500 mm apart.
+#[test]
+fn long_recordings() {
+    let every = |step: u32, tolerance: f32| OwnedRecording {
+        days: (0..4_000).map(|place| step * place).collect(),
+        depths: vec![1.0; 4_000],
+        tolerances: vec![tolerance; 4_000],
+    };
+    let first = every(2, 0.25);
+    let rows = [(0.25, "1334 2666 2666 -"), (0.249, "1334 2666 2666 6000")];
+    for (tolerance, answer) in rows {
+        let mut second = every(3, tolerance);
+        second.depths[2_000] = 1.5;
+        both(|ledger| {
+            let answered = (ledger.dips)(first.lent(), second.lent());
+            assert_eq!(answered, dips_answer(answer));
+        });
+    }
 }
 
 /// Every prefix of a listing and every length of each buffer, up to need.

@@ -2,6 +2,11 @@
 #include "peat.h"
 #include <stdio.h>
 
+static void print_dips(peat_dips_answer dips) {
+    printf("dips %u %zu: %zu %zu %zu, ", dips.number, dips.place, dips.paired, dips.only_first, dips.only_second);
+    printf("%d %u\n", dips.differs, dips.day);
+}
+
 int main(void) {
     const uint32_t listing[] = {0x10010102, 0x2014190C, 0x3460B554, 0x3460B400, 0x400107D0, 0x527101F4};
     uint32_t book[5], lines[3];
@@ -39,5 +44,10 @@ int main(void) {
     peat_logged_answer logged = peat_logged(2, 1, densities, 3, areas, 2, of_stratum, 1);
     peat_logged_answer no_year_0 = peat_logged(2, 1, densities, 2, areas, 2, of_stratum, 1);
     printf("logged %u %zu: %u %d, without year 0 %u\n", logged.number, logged.place, logged.average, logged.holds, no_year_0.number);
+    const uint32_t tape_days[] = {1, 4, 7, 9, 12}, logger_days[] = {0, 4, 5, 7, 8, 20}, fallen_days[] = {0, 4, 5, 3, 8, 20};
+    const float tape[] = {1, 1.5f, 2.5f, 3, 3}, tape_tolerances[] = {0, 0.25f, 0.25f, 0, 0};
+    const float logger[] = {9, 1, 9, 2, 9, 9}, logger_tolerances[] = {0, 0.25f, 0, 0.125f, 0, 0};
+    print_dips(peat_dips(tape_days, 5, tape, 5, tape_tolerances, 5, logger_days, 6, logger, 6, logger_tolerances, 6));
+    print_dips(peat_dips(tape_days, 5, tape, 5, tape_tolerances, 5, fallen_days, 6, logger, 6, logger_tolerances, 6));
     return 0;
 }

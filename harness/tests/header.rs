@@ -4,7 +4,8 @@ use std::process::Command;
 
 /// The figures are document 01's, "Worked on paper"; 5 words are needed for the book. 775000 are the
 /// kg of the two years; the last forecast is of 6 cells, each with the greatest emission, 816,000,000 kg. Of logged
-/// blocks the average is 200 / 2, and 10 × 50 + 30 × 150 is more than 40 × 100.
+/// blocks the average is 200 / 2, and 10 × 50 + 30 × 150 is more than 40 × 100. Dips are paired of days 4 and 7, both
+/// 500 mm apart, with tolerances of 250 + 250 and of 250 + 125 mm; day 3 at place 3 is not above day 5.
 const EXPECTED: &str = "\
 open 6 4 0
 0 0 0: D000002D E000012C F00A9114, 553 t
@@ -16,6 +17,8 @@ forecast 0 0 4896000000
 depths 699 2250, missing 18
 discount 8499
 logged 0 0: 100 1, without year 0 21
+dips 0 0: 2 3 4, 1 7
+dips 24 3: 0 0 0, 0 0
 ";
 
 #[test]

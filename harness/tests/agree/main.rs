@@ -2,6 +2,7 @@
 //! random calls, and document 01's four claims on lists of calls. It prints a table of what was met.
 mod blocks;
 mod books;
+mod dips;
 mod lent;
 mod lists;
 mod pools;
@@ -12,8 +13,10 @@ use std::time::Instant;
 
 const LEAST_CASES: u64 = 1_000_000;
 
+type Part = fn(u64, &mut Met);
+
 /// Each part with its seed, side by side.
-const PARTS: [(fn(u64, &mut Met), u64); 9] = [
+const PARTS: [(Part, u64); 10] = [
     (lists::lists, 1),
     (lists::lists, 11),
     (lists::lists, 12),
@@ -23,6 +26,7 @@ const PARTS: [(fn(u64, &mut Met), u64); 9] = [
     (readings::cores_next_to_whole_millimetres, 0),
     (pools::discounts, 5),
     (blocks::logged_blocks, 6),
+    (dips::dips, 7),
 ];
 
 fn main() {

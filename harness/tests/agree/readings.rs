@@ -26,6 +26,11 @@ fn depth(met: &mut Met, reading: Reading) -> Answer {
     answer
 }
 
+/// Of a finite number of metres. 24 bits times 1,000 fit the 53 bits of an f64.
+pub fn millimetres(metres: f32) -> i64 {
+    (f64::from(metres) * 1_000.0).floor() as i64
+}
+
 /// The classes of both levels, unless the surface alone decided, and differences at the ends of their range.
 fn count_levels(met: &mut Met, surface: f32, base: f32, answer: Answer) {
     met.count("level of", class(surface));
@@ -36,9 +41,7 @@ fn count_levels(met: &mut Met, surface: f32, base: f32, answer: Answer) {
     if answer.number != 0 && answer.place == 1 {
         return;
     }
-    // 24 bits times 1,000 fit the 53 bits of an f64.
-    let [surface, base] = [surface, base].map(|level| (f64::from(level) * 1_000.0).floor() as i64);
-    match surface - base {
+    match millimetres(surface) - millimetres(base) {
         -1 => met.count("levels that differ by", "-1 mm"),
         0 => met.count("levels that differ by", "0 mm"),
         20_000 => met.count("levels that differ by", "20,000 mm"),
