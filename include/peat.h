@@ -20,7 +20,7 @@
  *
  * Refusals. Number 0 is accepted. Any other number is a refusal: nothing has been written to any slice, every figure of
  * the answer is 0, and every flag false. The tests run in the order of this table, and the first that fails is
- * answered; where one number has several places, the lowest:
+ * answered; where one number has several places, the lowest (for dips the lowest of the first recording that has one):
  *
  *   no.  met by                condition                                               place
  *    1   every listing         fewer than 2 words                                      0
@@ -54,8 +54,8 @@
  *   24   dips                  a day not above the one before                          index of the later day
  *
  * For a pair of levels 16 is tested on both before 17. For dips 23 and 24 come before 16 and 17, and the readings are
- * tested one after the other, each for 16 and then for 17: the first recording before the second, by index, a depth
- * before its tolerance.
+ * tested one after the other, each for 16 and then for 17, by index, a depth before its tolerance. Each of 23, 24 and
+ * the readings is tested on the first recording before the second.
  */
 #ifndef PEAT_H
 #define PEAT_H
@@ -103,8 +103,8 @@ typedef struct {
 
 /*
  * Two recordings held against each other: how many days are in both, in the first alone and in the second alone, and
- * whether the two dips of a day in both differ. day: the first such day, 0 where there is none; `differs` tells, since
- * a day's number may be 0.
+ * whether the two dips of any day in both differ by more than both tolerances. day: the first such day, 0 where there is
+ * none; `differs` tells, since a day's number may be 0.
  */
 typedef struct {
     uint32_t number;

@@ -773,6 +773,7 @@ fn dips_at_their_limit() {
         "4; 0; 0 | 4; 0.7005; #3F333333 -> 1 0 0 4",
         // The greatest difference with the greatest tolerance, and 1 mm less.
         "4; 0; 0 | 4; 20; 20 -> 1 0 0 -",
+        "4; 0; 20 | 4; 20; 20 -> 1 0 0 -",
         "4; 0; 0 | 4; 20; #419FFFFF -> 1 0 0 4",
         // Subnormal numbers are 0 mm, and so is 0.9 mm; 1.5 mm are 1.
         "4; -0; -0 | 4; 0; -0 -> 1 0 0 -",

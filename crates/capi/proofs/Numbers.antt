@@ -21,7 +21,7 @@ use Rattle.forecast.specs.Forecast.{output_checked, forecast_checked, forecast_a
 use Rattle.reading.specs.Depth.{core, levels, depth}
 use Rattle.reading.specs.declared.Reading.{Reading}
 use Rattle.reading.specs.declared.Reading.TheVariants.{Core, Levels, Missing}
-use Rattle.dips.specs.Dips.{Recorded, dip, metres_checked, dip_checked, readings_checked, dips_checked, dips}
+use Rattle.dips.specs.Dips.{Recorded, dip, reading_checked, dip_checked, readings_checked, dips_checked, dips}
 use Rattle.discount.specs.Discount.{discount}
 use Rattle.logging.specs.Logging.{tables_checked, logged}
 use Rattle.capi.specs.Exported.{Numbered, EveryNumber}
@@ -76,9 +76,9 @@ depth_numbered (Levels surface base) =
 depth_numbered Missing = record { exactly = refl }
 
 -- a reading of a dip is refused by the number of its core depth
-metres_numbered : (k : ℕ) (x : Float) → Numbered (metres_checked k x)
-unfolding metres_checked need
-metres_numbered k x =
+reading_numbered : (k : ℕ) (x : Float) → Numbered (reading_checked k x)
+unfolding reading_checked need
+reading_numbered k x =
     by_test Numbered (core x).done (accepted 0) (refused (core x).number k) (λ _. none 0)
     (λ e. let other = eqb-false (core x).number 0 (sym (depth_numbered (Core x)).exactly ∙ e) in refusal (core x).number k (omega arith))
 
@@ -87,7 +87,7 @@ unfolding readings_checked dip_checked
 readings_numbered r k zero = none 0
 readings_numbered r k (suc n) =
     let d = dip r k in
-    then _ _ (then _ _ (metres_numbered k d.depth) (metres_numbered k d.tolerance)) (readings_numbered r (suc k) n)
+    then _ _ (then _ _ (reading_numbered k d.depth) (reading_numbered k d.tolerance)) (readings_numbered r (suc k) n)
 
 pub every_number : EveryNumber
 unfolding open_effect close_effect close_answer lines_checked year_checked replan_effect replan_answer plan_checked withdraw_effect issue_effect issue_answer statement_answer

@@ -67,8 +67,8 @@ pub struct LoggedAnswer {
 }
 
 // The answer of two recordings held against each other: number and place as above, the number of days in both,
-// in the first alone and in the second alone, whether a day in both differs, and the first that does. `differs`
-// tells whether there is one: its day number may be 0.
+// in the first alone and in the second alone, whether on any day in both they differ by more than both
+// tolerances, and the first such day. `differs` tells whether there is one: its number may be 0.
 #[repr(C)]
 #[derive(Clone, Copy, Debug, PartialEq, Eq)]
 pub struct DipsAnswer {

@@ -14,13 +14,12 @@ use Rattle.std.specs.List.{list_any, filter, find}
 use Rattle.std.proofs.lemmas.List.Folds.{list_any_at}
 use Rattle.words.specs.Answers.{Answer, accepted}
 use Rattle.words.proofs.Signed.{by_less, by_equal}
-use Rattle.words.proofs.Answers.{after_accepted, after_is, need_accepted, need_next, need_none_accepted, found_none, and_left}
+use Rattle.words.proofs.Answers.{and_left}
 use Rattle.dips.specs.Dips.{Recorded, day, dip, mm_of, differ, dip_of_day, has_day, day_differs, paired_days, figures_of, dips_checked, dips}
-use Rattle.dips.specs.Pairing.{Paired, FirstDiffering, Pairing, Exchanged, EveryPairing}
+use Rattle.dips.specs.Pairing.{Accepted, Paired, FirstDiffering, Pairing, Exchanged, EveryPairing}
 use Rattle.dips.specs.declared.Dip.{Dip}
-use Rattle.dips.specs.Bounds.{Regular}
-use Rattle.dips.proofs.Readings.{passed_is}
-use Rattle.dips.proofs.Days.{regular_by, days_rise, day_differs_is, counts, counts_second, paired_same}
+use Rattle.dips.proofs.Pairing.{places_counted}
+use Rattle.dips.proofs.Days.{accepted_by, passed_by, rising, days_rise, day_differs_is, counts, counts_second, paired_same}
 
 -- ---- the first number of a list that passes a test
 record Found (r : ℕ → Bool) (xs : List ℕ) (d : ℕ) : Type 0 where
@@ -82,7 +81,7 @@ place_of d (x ∷ xs) h = go (eqb d x) refl h (place_of d xs)
     go true e h rest = record { at = 0; inside = omega arith; is = sym (eqb-true d x e) }
     go false e h rest = let p = rest h in record { at = suc p.at; inside = omega (arith, p.inside); is = p.is }
 
-module _ {first second : Recorded} (e : Regular first) (f : Regular second) where
+module _ {first second : Recorded} (e : Accepted first) (f : Accepted second) where
   -- the day that both dips have passes both tests
   abbrev in_both : ℕ → Bool
   in_both d = has_day second d && day_differs first second d
@@ -128,48 +127,34 @@ differ_same a b =
     let apart : abs_diff (mm_of b.depth) (mm_of a.depth) ≡ abs_diff (mm_of a.depth) (mm_of b.depth) = omega arith in
     ap₂ ltb together apart
 
--- the tests of both are passed in either order
-exchanged_done : (first second : Recorded) → (dips_checked first second).done ≡ true → accepted 0 ≡ dips_checked second first
-unfolding dips_checked
-exchanged_done first second h =
-    let one = need_accepted _ _ _ _ h in
-    let other = need_accepted _ _ _ _ one.1 in
-    let days = need_none_accepted _ _ _ _ other.1 in
-    let more = need_none_accepted _ _ _ _ days.1 in
-    let readings = after_accepted _ _ more.1 in
-    need_next _ _ _ _ _ other.0
-    (need_next _ _ _ _ _ one.0
-    (found_none _ _ _ _ _ _ refl more.0
-    (found_none _ _ _ _ _ _ refl days.0
-    (passed_is first 0 (length first.days) readings.0 ∙ after_is _ _ readings.1))))
-
 module _ (first second : Recorded) (h : (dips_checked first second).done ≡ true) where
-  regular : Regular first × Regular second
-  regular = regular_by first second h
+  both : Accepted first × Accepted second
+  both = accepted_by first second h
 
   exchanged_day : find (day_differs second first) (paired_days second first) ≡ find (day_differs first second) (paired_days first second)
   exchanged_day =
       find_same (day_differs second first) (day_differs first second) (λ d. differ_same (dip_of_day first d) (dip_of_day second d)) (paired_days second first)
-      ∙ ap (find (day_differs first second)) (sym (paired_same regular.0 regular.1))
+      ∙ ap (find (day_differs first second)) (sym (paired_same both.0 both.1))
 
   pairing : Pairing first second (figures_of first second)
   unfolding figures_of
   pairing =
       record {
+        paired_are = sym (places_counted first.days second.days (rising both.1));
         all_first = counts first second;
-        all_second = counts_second regular.0 regular.1;
-        day_found = day_first regular.0 regular.1;
-        none_found = day_none regular.0 regular.1;
+        all_second = counts_second both.0 both.1;
+        day_found = day_first both.0 both.1;
+        none_found = day_none both.0 both.1;
       }
 
   exchanged : Exchanged (dips first second) (dips second first)
   unfolding dips figures_of
   exchanged =
-      let here : accepted 0 ≡ dips_checked first second = exchanged_done second first (ap (λ (a : Answer). a.done) (sym (exchanged_done first second h))) in
-      let there : accepted 0 ≡ dips_checked second first = exchanged_done first second h in
+      let here : accepted 0 ≡ dips_checked first second = passed_by first second both.0 both.1 in
+      let there : accepted 0 ≡ dips_checked second first = passed_by second first both.1 both.0 in
       record {
         answer = sym there ∙ here;
-        paired = rw (← here, ← there) (ap (λ (ds : List ℕ). length ds) (sym (paired_same regular.0 regular.1)));
+        paired = rw (← here, ← there) (ap (λ (ds : List ℕ). length ds) (sym (paired_same both.0 both.1)));
         only_first = rw (← here, ← there) refl;
         only_second = rw (← here, ← there) refl;
         first_differing = rw (← here, ← there) exchanged_day;
@@ -179,6 +164,8 @@ pub every_pairing : EveryPairing
 unfolding dips
 every_pairing =
     record {
+      accepts = λ first second a b. ap (λ (x : Answer). x.done) (sym (passed_by first second a b));
+      accepts_only = accepted_by;
       pairing = λ first second h. rw h (pairing first second h);
       exchanged = exchanged;
     }

@@ -1,14 +1,17 @@
 -- The paired days by a walk through both lists of days. Assumes nothing.
 use mathlib.Core.Path.{◌≡◌, refl, sym, ap, ap₂, ◌∙◌}
-use mathlib.Core.Bool.{Bool, true, false}
+use mathlib.Core.Bool.{Bool, true, false, cond}
 use mathlib.Core.List.{List, [], ◌∷◌}
-use Prim.Native.Nat.{ℕ, zero, suc, ◌-◌, ◌<◌, ◌≤◌}
+use Prim.Native.Nat.{ℕ, zero, suc, ◌+◌, ◌<◌, ◌≤◌}
+use native.Mathlib.Nat.{zero-add}
 use native.Mathlib.Omega.{arith}
-use lib.Dec.{eqb, ltb}
+use lib.Dec.{eqb}
 use lib.ListN.{length, drop, get_or}
-use borrow.Author.Tests.{ne_eqb, eq-eqb, ltb-true}
+use borrow.Author.Tests.{ne_eqb, eq-eqb}
 use Rattle.std.specs.List.{list_any, filter}
-use Rattle.words.proofs.Signed.{by_less}
+use Rattle.words.specs.Sums.{sum_below}
+use Rattle.words.proofs.Sums.{sum_same, sum_split}
+use Rattle.words.proofs.Signed.{by_less, by_equal}
 
 -- each number of the list is above d
 abbrev pub Above : ℕ → List ℕ → Type 0
@@ -29,22 +32,13 @@ rising_drop (suc i) [] r = r
 rising_drop (suc i) (x ∷ xs) r = rising_drop i xs r.1
 
 -- a list that rises from each place to the next
-pub by_places : (xs : List ℕ) → ((k : ℕ) → 1 ≤ k → k < length xs → ltb (get_or xs (k - 1) 0) (get_or xs k 0) ≡ true) → Rising xs
+pub by_places : (xs : List ℕ) → ((k : ℕ) → suc k < length xs → get_or xs k 0 < get_or xs (suc k) 0) → Rising xs
 by_places [] h = omega arith
 by_places (x ∷ []) h = (omega arith, omega arith)
 by_places (x ∷ y ∷ ys) h =
-    let rest : Rising (y ∷ ys) = by_places (y ∷ ys) (λ k one lt. later k one lt) in
-    let less : x < y = ltb-true x y (h 1 (omega arith) (omega arith)) in
+    let rest : Rising (y ∷ ys) = by_places (y ∷ ys) (λ k lt. h (suc k) (omega arith)) in
+    let less : x < y = h 0 (omega arith) in
     ((less, above_less x y less ys rest.0), rest)
-  where
-    later : (k : ℕ) → 1 ≤ k → k < length (y ∷ ys) → ltb (get_or (y ∷ ys) (k - 1) 0) (get_or (y ∷ ys) k 0) ≡ true
-    later zero one lt = absurd (omega arith)
-    later (suc k) one lt =
-        let before : suc k - 1 ≡ k = omega arith in
-        let there : suc k ≡ suc (suc k) - 1 = omega arith in
-        ap (λ (i : ℕ). ltb (get_or (y ∷ ys) i 0) (get_or (y ∷ ys) (suc k) 0)) before
-        ∙ ap (λ (i : ℕ). ltb (get_or (x ∷ y ∷ ys) i 0) (get_or (y ∷ ys) (suc k) 0)) there
-        ∙ h (suc (suc k)) (omega arith) (omega arith)
 
 -- ---- the numbers of xs that are in ys
 abbrev pub has : List ℕ → ℕ → Bool
@@ -87,3 +81,41 @@ both_same (x ∷ xs) ys r s = go (λ ys s. both_same xs ys r.1 s) ys s
         by_less x y (λ lt. first_lower x y xs ys s lt ∙ rest (y ∷ ys) s ∙ sym (second_lower y x ys xs s lt))
         (λ le. by_less y x (λ lt. second_lower x y xs ys r lt ∙ go rest ys s.1 ∙ sym (first_lower y x ys xs r lt))
         (λ le2. let e : x ≡ y = omega arith in same_first x y xs ys r e ∙ ap₂ ◌∷◌ e (rest ys s.1) ∙ sym (same_first y x ys xs s (sym e))))
+
+-- ---- how many there are
+
+sum_cons : (g : ℕ → ℕ) (x : ℕ) (xs : List ℕ) → sum_below (λ i. g (get_or (x ∷ xs) i 0)) (length (x ∷ xs)) ≡ g x + sum_below (λ i. g (get_or xs i 0)) (length xs)
+unfolding sum_below
+sum_cons g x xs =
+    let f = λ (i : ℕ). g (get_or (x ∷ xs) i 0) in
+    let n = length xs in
+    let more : suc n ≡ 1 + n = omega arith in
+    let first : sum_below f 1 ≡ g x = zero-add (g x) in
+    let rest : sum_below (λ i. f (1 + i)) n ≡ sum_below (λ i. g (get_or xs i 0)) n =
+    sum_same (λ i. f (1 + i)) (λ i. g (get_or xs i 0)) n (λ i lt. let next : 1 + i ≡ suc i = omega arith in ap f next) in
+    ap (sum_below f) more ∙ sum_split f 1 n ∙ ap₂ ◌+◌ first rest
+
+-- by the places that pass a test
+counted : (p : ℕ → Bool) (xs : List ℕ) → sum_below (λ i. cond (p (get_or xs i 0)) 1 0) (length xs) ≡ length (filter p xs)
+unfolding sum_below
+counted p [] = refl
+counted p (x ∷ xs) = sum_cons (λ d. cond (p d) 1 0) x xs ∙ go (p x) (counted p xs)
+  where
+    go : (b : Bool) → sum_below (λ i. cond (p (get_or xs i 0)) 1 0) (length xs) ≡ length (filter p xs) →
+        cond b 1 0 + sum_below (λ i. cond (p (get_or xs i 0)) 1 0) (length xs) ≡ length (cond b (x ∷ filter p xs) (filter p xs))
+    go true e = omega (arith, e)
+    go false e = omega (arith, e)
+
+-- of a number in a rising list there is one
+one_place : (d : ℕ) (ys : List ℕ) → Rising ys → sum_below (λ j. cond (eqb d (get_or ys j 0)) 1 0) (length ys) ≡ cond (has ys d) 1 0
+unfolding sum_below
+one_place d [] r = refl
+one_place d (y ∷ ys) r =
+    sum_cons (λ e. cond (eqb d e) 1 0) y ys
+    ∙ by_equal d y (λ same. rw (eq-eqb d y same, one_place d ys r.1, above_has d ys (rw (← same) at r.0)))
+    (λ other. rw (ne_eqb d y other, one_place d ys r.1) (zero-add (cond (has ys d) 1 0)))
+
+-- the numbers in both, by their places
+pub places_counted : (xs ys : List ℕ) → Rising ys →
+    sum_below (λ i. sum_below (λ j. cond (eqb (get_or xs i 0) (get_or ys j 0)) 1 0) (length ys)) (length xs) ≡ length (both xs ys)
+places_counted xs ys r = sum_same _ (λ i. cond (has ys (get_or xs i 0)) 1 0) (length xs) (λ i lt. one_place (get_or xs i 0) ys r) ∙ counted (has ys) xs

@@ -1,9 +1,8 @@
 -- Document 02, "Hand dips held against the logger": what two recordings of the same wells answer, day by day.
 use Rattle.std.specs.Prelude.{ℕ, zero, suc, ◌+◌, ◌-◌, Bool, not, ◌&&◌, List, None, Float, ltb, eqb, length, get_or}
 use Rattle.std.specs.Int.{abs_diff}
-use Rattle.std.specs.List.{list_any, filter, find}
+use Rattle.std.specs.List.{list_any, filter, find, position_or_len}
 use Rattle.std.specs.Float.{nan}
-use Rattle.words.specs.Search.{first_invalid}
 use Rattle.words.specs.Answers.{Answer, AnswerWith, accepted, need, need_all, after, with_figures}
 use Rattle.words.specs.Refusals.{dips_lengths, day_not_above}
 use Rattle.reading.specs.Depth.{core}
@@ -11,7 +10,7 @@ use Rattle.dips.specs.declared.Dip.{Dip}
 use Rattle.dips.specs.declared.Recording.{Recording}
 use Rattle.dips.specs.declared.DipsFigures.{DipsFigures}
 
--- "Each recording is a list of day numbers (32-bit), depths and tolerances (binary32 metres, both read as core depths)."
+-- "Each recording is a list of day numbers (32-bit), depths and tolerances (binary32 metres, both read as core depths)"; it may have no day
 pub record Recorded : Type 0 where
   pub days : List ℕ
   pub depths : List Float
@@ -31,41 +30,6 @@ day r k = get_or r.days k 0
 abbrev pub dip : Recorded → ℕ → Dip
 dip r k = record { depth = get_or r.depths k nan; tolerance = get_or r.tolerances k nan }
 
--- ---- what is refused
-
--- 23: "the three lists of one recording differ in length"
-abbrev pub same_length : Recorded → Bool
-same_length r = eqb (length r.days) (length r.depths) && eqb (length r.days) (length r.tolerances)
-
--- 24: "days not strictly rising, place the later index"; the day at place k is above the one before
-abbrev pub above_before : Recorded → ℕ → Bool
-above_before r k = ltb (day r (k - 1)) (day r k)
-
--- "A reading that is not finite or out of range gives 16 or 17, place its index": the number that it has as a core depth
-unfoldable pub metres_checked : ℕ → Float → Answer
-metres_checked k x = need (core x).done (core x).number k (accepted 0)
-
--- "a depth before its tolerance"
-unfoldable pub dip_checked : ℕ → Dip → Answer
-dip_checked k d = after (metres_checked k d.depth) (metres_checked k d.tolerance)
-
--- "Readings are tried one after the other, .. by index": so many from place k on
-unfoldable pub readings_checked : Recorded → ℕ → ℕ → Answer
-readings_checked r k zero = accepted 0
-readings_checked r k (suc n) = after (dip_checked k (dip r k)) (readings_checked r (suc k) n)
-
-abbrev pub all_readings_checked : Recorded → Answer
-all_readings_checked r = readings_checked r 0 (length r.days)
-
--- 23, "checked first", then 24, "before any reading", then the readings, each of "the first recording before the second"
-unfoldable pub dips_checked : Recorded → Recorded → Answer
-dips_checked first second =
-    need (same_length first) dips_lengths 0
-    (need (same_length second) dips_lengths 0
-    (need_all day_not_above (above_before first) 1 (length first.days)
-    (need_all day_not_above (above_before second) 1 (length second.days)
-    (after (all_readings_checked first) (all_readings_checked second)))))
-
 -- ---- what is answered
 
 -- whether a day is in a recording
@@ -80,7 +44,7 @@ paired_days first second = filter (has_day second) first.days
 abbrev pub unpaired_days : Recorded → Recorded → List ℕ
 unpaired_days first second = filter (λ d. not (has_day second d)) first.days
 
--- whole millimetres, rounded down
+-- a core depth's millimetres; 0 of a reading that is refused
 abbrev pub mm_of : Float → ℕ
 mm_of x = (core x).value
 
@@ -88,9 +52,9 @@ mm_of x = (core x).value
 abbrev pub differ : Dip → Dip → Bool
 differ a b = ltb (mm_of a.tolerance + mm_of b.tolerance) (abs_diff (mm_of a.depth) (mm_of b.depth))
 
--- the dip of a day that is in the recording
+-- the dip of a day that is in the recording, which is at the first place with that day
 abbrev pub dip_of_day : Recorded → ℕ → Dip
-dip_of_day r d = dip r (first_invalid (λ k. not (eqb d (day r k))) 0 (length r.days))
+dip_of_day r d = dip r (position_or_len (eqb d) r.days)
 
 abbrev pub day_differs : Recorded → Recorded → ℕ → Bool
 day_differs first second d = differ (dip_of_day first d) (dip_of_day second d)
@@ -105,6 +69,42 @@ figures_of first second =
       only_second = length (unpaired_days second first);
       first_differing = find (day_differs first second) (paired_days first second);
     }
+
+-- ---- what is refused
+
+-- "A reading that is not finite or out of range gives 16 or 17, place its index": the number that it has as a core depth
+unfoldable pub reading_checked : ℕ → Float → Answer
+reading_checked k x = need (core x).done (core x).number k (accepted 0)
+
+-- "a depth before its tolerance"
+unfoldable pub dip_checked : ℕ → Dip → Answer
+dip_checked k d = after (reading_checked k d.depth) (reading_checked k d.tolerance)
+
+-- "Readings are tried one after the other, .. by index": n dips from place k on
+unfoldable pub readings_checked : Recorded → ℕ → ℕ → Answer
+readings_checked r k zero = accepted 0
+readings_checked r k (suc n) = after (dip_checked k (dip r k)) (readings_checked r (suc k) n)
+
+abbrev pub all_readings_checked : Recorded → Answer
+all_readings_checked r = readings_checked r 0 (length r.days)
+
+-- 23: "the three lists of one recording differ in length"; no place is named, so 0
+abbrev pub same_length : Recorded → Bool
+same_length r = eqb (length r.days) (length r.depths) && eqb (length r.days) (length r.tolerances)
+
+-- 24: "days not strictly rising, place the later index"; the day at place k, from 1 on, is above the one before
+abbrev pub above_before : Recorded → ℕ → Bool
+above_before r k = ltb (day r (k - 1)) (day r k)
+
+-- 23, "checked first", then 24, "before any reading", then the readings; each of "the first recording before the second", so that a place is the
+-- lowest of its own recording
+unfoldable pub dips_checked : Recorded → Recorded → Answer
+dips_checked first second =
+    need (same_length first) dips_lengths 0
+    (need (same_length second) dips_lengths 0
+    (need_all day_not_above (above_before first) 1 (length first.days)
+    (need_all day_not_above (above_before second) 1 (length second.days)
+    (after (all_readings_checked first) (all_readings_checked second)))))
 
 -- where the call is refused
 abbrev pub no_figures : DipsFigures

@@ -1,4 +1,3 @@
 -- What the contracts of dips cite, and the theorem on two recordings.
 pub mod Dips
 pub mod Pairing
-pub mod Bounds

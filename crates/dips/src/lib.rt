@@ -1,14 +1,15 @@
 // Hand dips held against a logger's: two recordings of the same wells, day by day.
 #![tactic(auto)]
 
-ghost use Rattle.std.specs.Prelude.{◌≡◌, true, ◌-◌, ◌<◌, ◌≤◌, cond, None, Some, ltb, length, get_or};
+ghost use Rattle.std.specs.Prelude.{◌≡◌, true, ◌-◌, ◌*◌, ◌<◌, ◌≤◌, cond, None, Some, ltb, length, get_or};
 ghost use Rattle.std.specs.Option.{option_or};
 ghost use Rattle.words.specs.Answers.{outcome, answer_with};
+ghost use Rattle.reading.specs.Metres.{most_core};
 ghost use Rattle.reading.specs.Depth.{core};
 ghost use Rattle.words.specs.Search.{first_invalid};
-ghost use Rattle.dips.specs.Dips.{recorded, same_length, above_before, dip, metres_checked, dip_checked, all_readings_checked, dips_checked};
+ghost use Rattle.dips.specs.Dips.{recorded, same_length, above_before, dip, reading_checked, dip_checked, all_readings_checked, dips_checked};
 ghost use Rattle.dips.specs.Dips.{mm_of, differ, no_figures, figures_of, dips};
-ghost use Rattle.dips.specs.Bounds.{most_mm, Regular};
+ghost use Rattle.dips.specs.Pairing.{Accepted};
 
 use words::{Reason, Refusal, first_invalid, need};
 
@@ -28,7 +29,7 @@ pub struct Dip {
 }
 
 // What two recordings held against each other answer: the number of days in both, in the first alone and in
-// the second alone, and the first day on which they differ.
+// the second alone, and the first day on which they differ by more than both tolerances.
 #[derive(Clone, Copy, Debug, PartialEq, Eq)]
 pub struct DipsFigures {
     pub paired: usize,
@@ -39,7 +40,7 @@ pub struct DipsFigures {
 
 // Numbers 16 and 17 of one reading, as `core` gives them, but at the place of its dip.
 fn check_reading(metres: f32, place: usize) -> Result<(), Refusal>
-    ensures { outcome result ≡ metres_checked place metres }
+    ensures { outcome result ≡ reading_checked place metres }
 {
     match reading::core(metres) {
         Ok(_) => Ok(()),
@@ -58,7 +59,7 @@ fn check_dip(dip: Dip, place: usize) -> Result<(), Refusal>
 // The millimetres of a reading that is a core depth; of a refused one 0, which is not asked for.
 fn mm_of(metres: f32) -> u32
     ensures value { result ≡ mm_of metres }
-    ensures bound { result ≤ most_mm }
+    ensures bound { result ≤ 1000 * most_core }
 {
     reading::core(metres).unwrap_or(0)
 }
@@ -101,7 +102,7 @@ impl Recording<'_> {
         (days == self.depths.len()) & (days == self.tolerances.len())
     }
 
-    // The first day that is not above the one before; where there is none, the length, or 1 where
+    // The place of the first day that is not above the one before; where there is none, the length, or 1 where
     // there is no day: a search from 1 to 0 would run backwards.
     #[tactic(auto, using(words::proofs::Steps::passed_none, words::proofs::Steps::passed_all))]
     fn first_day_not_above(&self) -> usize
@@ -149,7 +150,7 @@ fn check(first: &Recording<'_>, second: &Recording<'_>) -> Result<(), Refusal>
 
 // Walks both recordings once, together: of two days that differ the lower one is in one recording alone.
 fn pair(first: &Recording<'_>, second: &Recording<'_>) -> DipsFigures
-    requires { Regular (recorded first.now) × Regular (recorded second.now) }
+    requires { Accepted (recorded first.now) × Accepted (recorded second.now) }
     ensures { result ≡ figures_of (recorded first.now) (recorded second.now) }
 {
     let mut i = 0;

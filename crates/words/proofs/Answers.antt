@@ -87,13 +87,13 @@ found_by n place p end next v e q = q ∙ need_found n place end next ∙ ap (λ
 pub ruleset answers = (refused_by, need_failed, need_next, flag_false, flag_true, found_none, lt-leb, le-leb, lt-ltb, le-ltb)
 
 -- an answer with figures: what a `?` gives on, and the figures of a call whose tests were passed
-pub with_refused : {F : Type 0} (none figures : F) (v : Result F Refusal) (r : Refusal) (a : Answer) → IsErrAnd v (λ e. e ≡ r) →
-    refused (number_of r.reason) r.place ≡ a → answer_with none v ≡ with_figures none a figures
-with_refused none figures v r a is e = let p = err_from_is_err_and v is in rw (p.1, p.2) (ap (λ (x : Answer). with_figures none x figures) e)
+pub with_refused : {F : Type 0} (if_refused figures : F) (v : Result F Refusal) (r : Refusal) (a : Answer) → IsErrAnd v (λ e. e ≡ r) →
+    refused (number_of r.reason) r.place ≡ a → answer_with if_refused v ≡ with_figures if_refused a figures
+with_refused if_refused figures v r a is e = let p = err_from_is_err_and v is in rw (p.1, p.2) (ap (λ (x : Answer). with_figures if_refused x figures) e)
 
-pub with_passed : {F : Type 0} (none figures f : F) (a : Answer) → accepted 0 ≡ a → f ≡ figures →
-    ◌≡◌ {A = AnswerWith F} (record { answer = accepted 0; figures = f }) (with_figures none a figures)
-with_passed none figures f a e q = rw q (ap (λ (x : Answer). with_figures none x figures) e)
+pub with_passed : {F : Type 0} (if_refused figures f : F) (a : Answer) → accepted 0 ≡ a → f ≡ figures →
+    ◌≡◌ {A = AnswerWith F} (record { answer = accepted 0; figures = f }) (with_figures if_refused a figures)
+with_passed if_refused figures f a e q = rw q (ap (λ (x : Answer). with_figures if_refused x figures) e)
 
 -- ---- backwards: an answer that is accepted failed no test
 

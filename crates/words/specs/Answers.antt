@@ -48,16 +48,16 @@ after before next = cond before.done next before
 
 -- ---- answers with figures beside them
 
--- what a call answers that answers a struct: number and place, with the value 0, and the struct's figures
+-- of a call whose value is a struct: number and place, and the struct's figures
 pub record AnswerWith (F : Type 0) : Type 0 where
   pub answer : Answer
   pub figures : F
 
--- the cases of such an answer; a refused one has the figures `none`
+-- the cases of such an answer, with what stands for the figures where it is refused
 abbrev pub answer_with : {F : Type 0} → F → Result F Refusal → AnswerWith F
-answer_with none (Ok f) = record { answer = accepted 0; figures = f }
-answer_with none (Err r) = record { answer = refused (number_of r.reason) r.place; figures = none }
+answer_with if_refused (Ok figures) = record { answer = accepted 0; figures = figures }
+answer_with if_refused (Err r) = record { answer = refused (number_of r.reason) r.place; figures = if_refused }
 
--- the figures where the tests of a call were passed, and `none` where not
+-- the figures where the tests of a call were passed, and what stands for them where not
 abbrev pub with_figures : {F : Type 0} → F → Answer → F → AnswerWith F
-with_figures none a figures = record { answer = a; figures = cond a.done figures none }
+with_figures if_refused a figures = record { answer = a; figures = cond a.done figures if_refused }

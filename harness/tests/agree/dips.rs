@@ -313,24 +313,18 @@ impl Pair {
 /// The pairs of accepted recordings. Those at the limit, or decided by rounding, are counted only where no earlier pair
 /// differs, and at the limit only with both tolerances above 0 mm.
 fn count_pairs(met: &mut Met, pairs: &[Pair]) {
-    let differs = |pair: &Pair| pair.beyond() > 0;
-    let place = pairs.iter().position(differs);
-    let first = place.map(|place| &pairs[place]);
+    let differing = pairs.iter().filter(|pair| pair.beyond() > 0).count();
+    let place = pairs.iter().position(|pair| pair.beyond() > 0);
     let deciding = &pairs[..place.map_or(pairs.len(), |place| place + 1)];
-    let is_first = |holds: fn(&Pair) -> bool| first.is_some_and(holds);
     let any = |holds: fn(&Pair) -> bool| deciding.iter().any(holds);
     let rows = [
-        (!pairs.is_empty() && first.is_none(), "none differs"),
+        (!pairs.is_empty() && differing == 0, "none differs"),
         (place == Some(0), "the first pair differs"),
         (
-            place.is_some_and(|place| place > 0),
+            differing > 0 && place != Some(0),
             "only a later pair differs",
         ),
-        (
-            pairs.iter().filter(|pair| differs(pair)).count() > 1,
-            "several pairs differ",
-        ),
-        (is_first(|pair| pair.day == 0), "day 0 differs first"),
+        (differing > 1, "several pairs differ"),
         (
             any(|pair| pair.beyond() == 0 && pair.has_tolerances()),
             "mm that differ by just the tolerances together",
@@ -340,17 +334,22 @@ fn count_pairs(met: &mut Met, pairs: &[Pair]) {
             "mm that differ by 1 mm more",
         ),
         (
-            is_first(|pair| pair.deeper() > 0),
-            "the first deeper where they differ",
-        ),
-        (
-            is_first(|pair| pair.deeper() < 0),
-            "the second deeper where they differ",
-        ),
-        (
             any(Pair::is_decided_by_rounding),
             "metres not rounded would answer otherwise",
         ),
+    ];
+    count_rows(met, &rows);
+    if let Some(place) = place {
+        count_first_that_differs(met, &pairs[place]);
+    }
+}
+
+fn count_first_that_differs(met: &mut Met, pair: &Pair) {
+    let deeper = pair.deeper();
+    let rows = [
+        (pair.day == 0, "day 0 differs first"),
+        (deeper > 0, "the first deeper where they differ"),
+        (deeper < 0, "the second deeper where they differ"),
     ];
     count_rows(met, &rows);
 }

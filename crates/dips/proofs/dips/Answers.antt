@@ -3,7 +3,7 @@ use Rattle.std.proofs.Common.{sym, ap}
 use Rattle.words.specs.Answers.{Answer}
 use Rattle.words.proofs.Answers.{with_refused, with_passed}
 use Rattle.dips.specs.Dips.{dips}
-use Rattle.dips.proofs.Days.{regular_by}
+use Rattle.dips.proofs.Days.{accepted_by}
 use Rattle.dips.proofs.dips.Goals as goal
 
 pub returns-in_err-check : goal.returns-in_err-check
@@ -11,7 +11,7 @@ unfolding dips
 returns-in_err-check c = with_refused _ _ _ _ _ c.from_residual.ensures.1 c.in_err-check.ensures
 
 pub pair-requires : goal.pair-requires
-pair-requires c = regular_by _ _ (ap (λ (a : Answer). a.done) (sym c.in_ok-check.ensures))
+pair-requires c = accepted_by _ _ (ap (λ (a : Answer). a.done) (sym c.in_ok-check.ensures))
 
 pub returns : goal.returns
 unfolding dips
