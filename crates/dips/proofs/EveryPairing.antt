@@ -34,7 +34,8 @@ module _ (r : ℕ → Bool) where
   none_by [] e i lt = absurd (omega arith)
   none_by (x ∷ xs) e i lt = go (r x) refl e (none_by xs) i lt
     where
-      go : (b : Bool) → r x ≡ b → cond b (Some x) (find r xs) ≡ None → (find r xs ≡ None → (k : ℕ) → k < length xs → r (get_or xs k 0) ≡ false) → (k : ℕ) → k < length (x ∷ xs) → r (get_or (x ∷ xs) k 0) ≡ false
+      go : (b : Bool) → r x ≡ b → cond b (Some x) (find r xs) ≡ None → (find r xs ≡ None → (k : ℕ) → k < length xs → r (get_or xs k 0) ≡ false) →
+          (k : ℕ) → k < length (x ∷ xs) → r (get_or (x ∷ xs) k 0) ≡ false
       go true s e rest k lt = absurd (false≢true (ap is_none e))
       go false s e rest zero lt = s
       go false s e rest (suc k) lt = rest e k (omega arith)
