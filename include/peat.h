@@ -103,8 +103,8 @@ typedef struct {
 
 /*
  * Two recordings held against each other: how many days are in both, in the first alone and in the second alone, and
- * whether the two dips of any day in both differ by more than both tolerances. day: the first such day, 0 where there is
- * none; `differs` tells, since a day's number may be 0.
+ * whether the two dips of any day in both differ by more than both tolerances together. day: the first such day, 0
+ * where there is none; `differs` tells, since a day's number may be 0.
  */
 typedef struct {
     uint32_t number;
@@ -184,7 +184,8 @@ peat_logged_answer peat_logged(uint32_t years, uint32_t strata, const uint32_t *
  * length, which may be 0: day numbers, each above the one before; depths and tolerances, metres of 0 to 20, of which the
  * whole mm count, rounded down. A day is paired with the same day of the other recording. Its two dips differ if their
  * mm differ by more than the mm of both tolerances together. A refused call has differs false too: look at the number
- * first. The place of a refusal does not tell whose it is: the first recording is tested before the second at each step.
+ * first. The place of a refusal tells neither whose it is, nor whether a depth or a tolerance: hold each recording
+ * against one of length 0, and try the depth by peat_core.
  */
 peat_dips_answer peat_dips(const uint32_t *first_days, size_t first_days_len, const float *first_depths,
                            size_t first_depths_len, const float *first_tolerances, size_t first_tolerances_len,

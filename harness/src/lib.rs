@@ -51,8 +51,8 @@ pub struct LoggedAnswer {
     pub holds: bool,
 }
 
-/// What two recordings held against each other answer; where they are refused, every count is 0, `differs` false
-/// and `day` 0.
+/// What two recordings held against each other answer; `day` is 0 where none differs. Where they are refused, every
+/// count is 0, `differs` false and `day` 0, and `place` is an index in one of the two.
 #[repr(C)]
 #[derive(Clone, Copy, Debug, Default, PartialEq, Eq)]
 pub struct DipsAnswer {
@@ -65,7 +65,8 @@ pub struct DipsAnswer {
     pub day: u32,
 }
 
-/// A recording of a well: for each dip its day number, its depth and its tolerance in metres.
+/// A recording of a well: for each dip its day number, each above the one before, its depth and its tolerance, 0 to 20
+/// metres.
 #[derive(Clone, Copy, Debug)]
 pub struct Recording<'a> {
     pub days: &'a [u32],
