@@ -48,6 +48,7 @@ int main(void) {
     const float tape[] = {1, 1.5f, 2.5f, 3, 3}, tape_tolerances[] = {0, 0.25f, 0.25f, 0, 0};
     const float logger[] = {9, 1, 9, 2, 9, 9}, logger_tolerances[] = {0, 0.25f, 0, 0.125f, 0, 0};
     print_dips(peat_dips(tape_days, 5, tape, 5, tape_tolerances, 5, logger_days, 6, logger, 6, logger_tolerances, 6));
+    print_dips(peat_dips(logger_days, 6, logger, 6, logger_tolerances, 6, tape_days, 5, tape, 5, tape_tolerances, 5));
     print_dips(peat_dips(tape_days, 5, tape, 5, tape_tolerances, 5, fallen_days, 6, logger, 6, logger_tolerances, 6));
     return 0;
 }

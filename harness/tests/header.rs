@@ -18,6 +18,7 @@ depths 699 2250, missing 18
 discount 8499
 logged 0 0: 100 1, without year 0 21
 dips 0 0: 2 3 4, 1 7
+dips 0 0: 2 4 3, 1 7
 dips 24 3: 0 0 0, 0 0
 ";
 

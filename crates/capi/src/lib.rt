@@ -68,7 +68,7 @@ pub struct LoggedAnswer {
 
 // The answer of two recordings held against each other: number and place as above, the number of days in both,
 // in the first alone and in the second alone, whether on any day in both they differ by more than both
-// tolerances, and the first such day. `differs` tells whether there is one: its number may be 0.
+// tolerances together, and the first such day. `differs` tells whether there is one: its number may be 0.
 #[repr(C)]
 #[derive(Clone, Copy, Debug, PartialEq, Eq)]
 pub struct DipsAnswer {
@@ -316,7 +316,7 @@ pub extern "C" fn peat_logged(
     LoggedAnswer::from(logging::logged(years, strata, densities, areas, discounts))
 }
 
-// Two recordings of the same wells held against each other: for each its days, depths and tolerances.
+// Two recordings of a well held against each other: for each its days, depths and tolerances.
 #[unsafe(no_mangle)]
 pub extern "C" fn peat_dips(
     first_days: &[u32],

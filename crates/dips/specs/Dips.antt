@@ -1,4 +1,4 @@
--- Document 02, "Hand dips held against the logger": what two recordings of the same wells answer, day by day.
+-- Document 02, "Hand dips held against the logger": what two recordings of a well answer, day by day.
 use Rattle.std.specs.Prelude.{ℕ, zero, suc, ◌+◌, ◌-◌, Bool, not, ◌&&◌, List, None, Float, ltb, eqb, length, get_or}
 use Rattle.std.specs.Int.{abs_diff}
 use Rattle.std.specs.List.{list_any, filter, find, position_or_len}

@@ -1,4 +1,4 @@
-// Hand dips held against a logger's: two recordings of the same wells, day by day.
+// Hand dips held against a logger's: two recordings of a well, day by day.
 #![tactic(auto)]
 
 ghost use Rattle.std.specs.Prelude.{◌≡◌, true, ◌-◌, ◌*◌, ◌<◌, ◌≤◌, cond, None, Some, ltb, length, get_or};
@@ -13,7 +13,7 @@ ghost use Rattle.dips.specs.Pairing.{Accepted};
 
 use words::{Reason, Refusal, first_invalid, need};
 
-// A recording of wells: the day number of each dip, its depth and its tolerance in metres.
+// A recording of a well: the day number of each dip, its depth and its tolerance in metres.
 #[derive(Clone, Copy, Debug, PartialEq)]
 pub struct Recording<'a> {
     pub days: &'a [u32],
@@ -29,7 +29,7 @@ pub struct Dip {
 }
 
 // What two recordings held against each other answer: the number of days in both, in the first alone and in
-// the second alone, and the first day on which they differ by more than both tolerances.
+// the second alone, and the first day on which they differ by more than both tolerances together.
 #[derive(Clone, Copy, Debug, PartialEq, Eq)]
 pub struct DipsFigures {
     pub paired: usize,
@@ -103,7 +103,7 @@ impl Recording<'_> {
     }
 
     // The place of the first day that is not above the one before; where there is none, the length, or 1 where
-    // there is no day: a search from 1 to 0 would run backwards.
+    // there is no day. With one day or none there is nothing to search.
     #[tactic(auto, using(words::proofs::Steps::passed_none, words::proofs::Steps::passed_all))]
     fn first_day_not_above(&self) -> usize
         ensures { result ≡ first_invalid (above_before (recorded self.now)) 1 (length self.now.days.now) }
@@ -179,7 +179,7 @@ fn pair(first: &Recording<'_>, second: &Recording<'_>) -> DipsFigures
     }
 }
 
-// The dips of two recordings of the same wells held against each other day by day, or why they are refused.
+// The dips of two recordings of a well held against each other day by day, or why they are refused.
 pub fn dips(first: &Recording<'_>, second: &Recording<'_>) -> Result<DipsFigures, Refusal>
     ensures { answer_with no_figures result ≡ dips (recorded first.now) (recorded second.now) }
 {
