@@ -181,11 +181,11 @@ peat_logged_answer peat_logged(uint32_t years, uint32_t strata, const uint32_t *
 
 /*
  * Hand dips held against a logger's recording of the same well, or any two recordings. Each is three lists of one
- * length, which may be 0: day numbers, each above the one before; depths and tolerances, metres of 0 to 20, of which the
- * whole mm count, rounded down. A day is paired with the same day of the other recording. Its two dips differ if their
- * mm differ by more than the mm of both tolerances together. A refused call has differs false too: look at the number
- * first. The place of a refusal tells neither whose it is, nor whether a depth or a tolerance: hold each recording
- * against one of length 0, and try the depth by peat_core.
+ * length, which may be 0: day numbers, each above the one before; depths and tolerances, metres of 0 to 20, of which
+ * the whole mm count, rounded down. A day is paired with the same day of the other recording. Its two dips differ if
+ * their mm differ by more than the mm of both tolerances together. A refused call has differs false too: look at the
+ * number first. The place of a refusal tells neither whose it is, nor whether a depth or a tolerance: hold each
+ * recording against one of length 0, and try the depth by peat_core.
  */
 peat_dips_answer peat_dips(const uint32_t *first_days, size_t first_days_len, const float *first_depths,
                            size_t first_depths_len, const float *first_tolerances, size_t first_tolerances_len,
