@@ -68,7 +68,7 @@ find_same : (p p' : ℕ → Bool) → ((d : ℕ) → p d ≡ p' d) → (xs : Lis
 find_same p p' e [] = refl
 find_same p p' e (x ∷ xs) = rw (e x, find_same p p' e xs)
 
--- a number that is in a list has a place there, and the other way round
+-- a number that is in a list has a place there
 record Place (xs : List ℕ) (d : ℕ) : Type 0 where
   at : ℕ
   inside : at < length xs
@@ -110,9 +110,7 @@ module _ {first second : Recorded} (e : Accepted first) (f : Accepted second) wh
         paired = p;
         day_is = g.is;
         differs = sym (paired_is p) ∙ ap in_both g.is ∙ g.passes;
-        lowest = λ k m q h.
-            let inside = q.in_first in
-            lowest_lem k inside g (sym (paired_is q ∙ h));
+        lowest = λ k m q h. lowest_lem k q.in_first g (sym (paired_is q ∙ h));
       }
     where
       lowest_lem : (k : ℕ) → k < length first.days → Found in_both first.days d → true ≡ in_both (day first k) → d ≤ day first k

@@ -1,4 +1,4 @@
--- The paired days by a walk through both lists of days. Assumes nothing.
+-- The numbers that two rising lists share, by the first of each, and how many there are. Assumes nothing.
 use mathlib.Core.Path.{◌≡◌, refl, sym, ap, ap₂, ◌∙◌}
 use mathlib.Core.Bool.{Bool, true, false, cond}
 use mathlib.Core.List.{List, [], ◌∷◌}
