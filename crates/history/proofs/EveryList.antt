@@ -6,18 +6,19 @@ use Prim.Native.Nat.{ℕ}
 use native.Mathlib.Omega.{arith}
 use Rattle.listing.specs.Layout.{head, cell}
 use Rattle.year.proofs.Laws.{emission_none}
-use Rattle.book.specs.Current.{current, admitted}
+use Rattle.book.specs.Current.{current, admitted, Holds}
+use Rattle.opening.specs.Opening.{open_entry}
 use Rattle.ledger.specs.Calls.{open_effect, figures_of, statement_answer, Call}
 use Rattle.ledger.proofs.AdmittedCell.{cell_admitted}
 use Rattle.ledger.proofs.After.{opened_holds}
-use Rattle.history.specs.History.{State, next, run, BroughtForward, brought_forward_by_open, year_in, plan_in, sum_of, issued_in, highest, EachClosing, d_of, EveryUnconverted}
+use Rattle.history.specs.History.{State, next, run, BroughtForward, brought_forward_by_open, year_in, plan_in, sum_of, issued_in, highest, EachClosing, d_of, EveryUnconverted, deepest, EveryLevel}
 use Rattle.history.specs.History.{Claims, EveryList, IsBroughtForward, EveryListFrom}
 use Rattle.book.proofs.AcceptedBook.{shaped, accepted_book}
 use Rattle.history.proofs.Invariant.{Inv, kept_step}
 
 -- before the first call
 kept_start : (l b : List ℕ) (s : BroughtForward) → (admitted l b).done ≡ true → IsBroughtForward l b s → Inv l s b []
-unfolding year_in plan_in sum_of issued_in highest EachClosing
+unfolding year_in plan_in sum_of issued_in highest EachClosing deepest
 kept_start l b s admits brought =
     record {
       admits = admits;
@@ -28,6 +29,7 @@ kept_start l b s admits brought =
       burned_is = brought.burned_is;
       kilograms = brought.kg_is;
       dry = λ i p. tt;
+      level = λ i p. omega arith;
       top = refl;
     }
 
@@ -53,24 +55,37 @@ claims l s state v =
       issues = v.top;
     }
 
+kept_list : (l b : List ℕ) (s : BroughtForward) (admits : (admitted l b).done ≡ true) (brought : IsBroughtForward l b s) (calls : List Call) →
+    let state = run l (record { book = b; history = [] }) calls in Inv l s state.book state.history
+kept_list l b s admits brought calls = kept_run l s (record { book = b; history = [] }) calls (kept_start l b s admits brought)
+
 pub every_list_from : EveryListFrom
-every_list_from l b s admits brought calls = claims l s _ (kept_run l s (record { book = b; history = [] }) calls (kept_start l b s admits brought))
+every_list_from l b s admits brought calls = claims l s _ (kept_list l b s admits brought calls)
 
--- an opened book brings nothing forward, and the listing's plan years
+module _ (l b : List ℕ) (done : (open_effect l b).answer.done ≡ true) where
+  holds : Holds l (open_effect l b).book 0 0 (open_entry l)
+  holds = opened_holds l b done
+
+  -- an opened book brings nothing forward, and the listing's plan years
+  brings_nothing : IsBroughtForward l (open_effect l b).book (brought_forward_by_open l)
+  brings_nothing =
+      record {
+        year_is = holds.year_is;
+        issued_is = holds.issued_is;
+        plan_is = λ i p. rw (holds.entry_is i p);
+        oxidised_is = λ i p. rw (holds.entry_is i p);
+        burned_is = λ i p. rw (holds.entry_is i p);
+        kg_is = λ i p. sym (emission_none (head l) (cell l i));
+      }
+
 pub every_list : EveryList
-every_list l b done =
-    let holds = opened_holds l b done in
-    every_list_from l (open_effect l b).book (brought_forward_by_open l) holds.admits
-    (record {
-      year_is = holds.year_is;
-      issued_is = holds.issued_is;
-      plan_is = λ i p. rw (holds.entry_is i p);
-      oxidised_is = λ i p. rw (holds.entry_is i p);
-      burned_is = λ i p. rw (holds.entry_is i p);
-      kg_is = λ i p. sym (emission_none (head l) (cell l i));
-    })
+every_list l b done = every_list_from l (open_effect l b).book (brought_forward_by_open l) (holds l b done).admits (brings_nothing l b done)
 
--- beside the claims: d of a cell that is not converted
+-- beside the claims: no cell loses anything below its deepest water level
+pub every_level : EveryLevel
+every_level l b done calls = (kept_list l (open_effect l b).book (brought_forward_by_open l) (holds l b done).admits (brings_nothing l b done) calls).level
+
+-- and d of a cell that is not converted
 pub every_unconverted : EveryUnconverted
 unfolding d_of
 every_unconverted l s before i e = rw e

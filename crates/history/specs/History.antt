@@ -4,7 +4,7 @@ use Rattle.std.specs.Prelude.{◌≡◌, true, cond, List, [], ◌∷◌, ℕ, s
 use Rattle.words.specs.Bits.{at_least_0}
 use Rattle.words.specs.Effect.{Effect}
 use Rattle.listing.specs.Layout.{head, cells, guard, row, cell}
-use Rattle.year.specs.Year.{unconverted, age, drained, emission}
+use Rattle.year.specs.Year.{unconverted, age, drained, level_in, emission}
 use Rattle.book.specs.Current.{issued, entry, admitted}
 use Rattle.book.specs.Layout.{year, oxidised_line, burned_line, kg_line}
 use Rattle.balance.specs.Balance.{balance}
@@ -131,12 +131,13 @@ EachClosing P (Replanned j y ∷ h) = EachClosing P h
 EachClosing P (Issued t ∷ h) = EachClosing P h
 EachClosing P (Nothing ∷ h) = EachClosing P h
 
--- d of cell i in the year after the history `before`; where the plan year is 0 or above the year, d counts as 0
+-- d of cell i in the year after the history `before`, O and B being the sums of the lines handed out before; where the plan year is 0 or
+-- above the year, d counts as 0
 unfoldable pub d_of : List ℕ → BroughtForward → History → ℕ → ℕ
 d_of l s before i =
     let plan = plan_in s before i in
     let year = suc (year_in s before) in
-    cond (unconverted plan year) 0 (drained (row l (cell l i).stratum (age plan year)))
+    cond (unconverted plan year) 0 (drained (row l (cell l i).stratum (age plan year)) (oxidised_in s before i) (burned_in s before i))
 
 -- so d is 0 for every cell that is not converted by then; proofs/EveryList.antt proves it
 abbrev pub EveryUnconverted : Type 0
@@ -162,6 +163,24 @@ pub record Claims (l : List ℕ) (s : BroughtForward) (state : State) : Type 0 w
 -- THE THEOREM: for every listing and book that open accepts, and every list of calls on them, refused ones included
 abbrev pub EveryList : Type 0
 EveryList = (l b : List ℕ) → (open_effect l b).answer.done ≡ true → (calls : List Call) → Claims l (brought_forward_by_open l) (run l (record { book = (open_effect l b).book; history = [] }) calls)
+
+-- ---- beside the claims: how deep a cell's losses go
+
+-- the deepest water level of cell i in the years of the closings, or what was counted as lost before the list (0) if no water was below it
+unfoldable pub deepest : List ℕ → BroughtForward → History → ℕ → ℕ
+deepest l s [] i = s.oxidised i + s.burned i
+deepest l s (Lines x ∷ h) i = max (level_in (row l) (cell l i) (plan_in s h i) (suc (year_in s h))) (deepest l s h i)
+deepest l s (Replanned j y ∷ h) i = deepest l s h i
+deepest l s (Issued t ∷ h) i = deepest l s h i
+deepest l s (Nothing ∷ h) i = deepest l s h i
+
+-- no more was lost of a cell than down to there: nothing that no canal had drained
+abbrev pub WithinLevel : List ℕ → BroughtForward → State → Type 0
+WithinLevel l s state = (i : ℕ) → i < cells l → oxidised_in s state.history i + burned_in s state.history i ≤ deepest l s state.history i
+
+-- for every listing and book that open accepts, and every list of calls on them, refused ones included; proofs/EveryList.antt proves it
+abbrev pub EveryLevel : Type 0
+EveryLevel = (l b : List ℕ) → (open_effect l b).answer.done ≡ true → (calls : List Call) → WithinLevel l (brought_forward_by_open l) (run l (record { book = (open_effect l b).book; history = [] }) calls)
 
 -- ---- the same from any book that a call accepts, with what it brings forward counted as given before
 

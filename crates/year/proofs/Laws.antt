@@ -1,9 +1,9 @@
 -- A cell's year: its products fit, an emission grows with what is lost, no more is lost than there is, and which figures it depends on.
 -- Assumes nothing.
-use mathlib.Core.Path.{◌≡◌, refl, sym, ap, ◌∙◌}
+use mathlib.Core.Path.{◌≡◌, refl, sym, ap, ap₂, ◌∙◌}
 use mathlib.Core.Logic.{⊎_elim}
 use mathlib.Core.Bool.{true, false}
-use Prim.Native.Nat.{ℕ, ◌+◌, ◌-◌, ◌*◌, ◌≤◌, ◌<◌}
+use Prim.Native.Nat.{ℕ, ◌+◌, ◌-◌, ◌*◌, max, ◌≤◌, ◌<◌}
 use native.Mathlib.Nat.{add-zero, mul-le-mul, sub_self}
 use native.Mathlib.Omega.{arith}
 use lib.Dec.{ltb, eqb}
@@ -14,7 +14,7 @@ use Rattle.fields.specs.Valid.{HeadValid, RowValid, CellValid}
 use Rattle.fields.specs.declared.Head.{Head}
 use Rattle.fields.specs.declared.Row.{Row}
 use Rattle.fields.specs.declared.Cell.{Cell}
-use Rattle.year.specs.Year.{unconverted, inactive, age, drained, remaining, burned_by, oxidised_by, burned_mm, mm_of, no_mm, year_mm, kg_of, loss_of, year_loss}
+use Rattle.year.specs.Year.{unconverted, inactive, age, drained, level_in, remaining, burned_by, oxidised_by, burned_mm, mm_of, no_mm, year_mm, kg_of, loss_of, year_loss}
 use Rattle.year.specs.Year.{burned_weight, emission_divisor, emission, EveryEmission, no_loss, most_line, most_emission, most_loss, after_loss}
 use Rattle.year.specs.Limits.{WithinLimits, SameFigures}
 use Rattle.year.specs.declared.Entry.{Entry}
@@ -126,19 +126,20 @@ module _ (guard d b R : ℕ) where
   burned_least = (omega arith, omega arith, omega arith)
 
 module _ (d o R burned : ℕ) where
-  oxidised_least : (oxidised_by d o R burned ≤ o) × (oxidised_by d o R burned ≤ R - burned)
+  oxidised_least : (oxidised_by d o R burned ≤ o) × (oxidised_by d o R burned ≤ R - burned) × (oxidised_by d o R burned ≤ d - burned)
   unfolding oxidised_by
-  oxidised_least = (omega arith, omega arith)
+  oxidised_least = (omega arith, omega arith, omega arith)
 
 module _ (h : Head) (c : Cell) (r : Row) (e : Entry) where
   mm_least :
-      ((mm_of h c r e).burned ≤ r.burning) × ((mm_of h c r e).burned ≤ remaining c e) × ((mm_of h c r e).burned ≤ drained r - h.guard)
+      ((mm_of h c r e).burned ≤ r.burning) × ((mm_of h c r e).burned ≤ remaining c e) × ((mm_of h c r e).burned ≤ drained r e.oxidised e.burned - h.guard)
       × ((mm_of h c r e).oxidised ≤ r.oxidation) × ((mm_of h c r e).oxidised ≤ remaining c e - (mm_of h c r e).burned)
+      × ((mm_of h c r e).oxidised ≤ drained r e.oxidised e.burned - (mm_of h c r e).burned)
   unfolding mm_of
   mm_least =
-      let b = burned_least h.guard (drained r) r.burning (remaining c e) in
-      let o = oxidised_least (drained r) r.oxidation (remaining c e) (burned_mm h c r e) in
-      (b.0, b.1, b.2, o.0, o.1)
+      let b = burned_least h.guard (drained r e.oxidised e.burned) r.burning (remaining c e) in
+      let o = oxidised_least (drained r e.oxidised e.burned) r.oxidation (remaining c e) (burned_mm h c r e) in
+      (b.0, b.1, b.2, o.0, o.1, o.2)
 
   -- no more is lost than was entered, after the year too
   pub lost_within : e.oxidised + e.burned ≤ c.entered → (e.oxidised + (mm_of h c r e).oxidised) + (e.burned + (mm_of h c r e).burned) ≤ c.entered
@@ -190,9 +191,13 @@ module _ (h : Head) (rows : ℕ → ℕ → Row) (c : Cell) (e : Entry) (t : ℕ
   unfolding year_mm
   mm_active q = rw q
 
-  pub loss_inactive : inactive h c e t ≡ true → year_loss h rows c e t ≡ no_loss
+  -- no mm are no loss
+  loss_none : year_mm h rows c e t ≡ no_mm → year_loss h rows c e t ≡ no_loss
   unfolding year_loss
-  loss_inactive q = rw (mm_inactive q, add-zero e.oxidised, add-zero e.burned, sub_self (kg_of h c e))
+  loss_none q = rw (q, add-zero e.oxidised, add-zero e.burned, sub_self (kg_of h c e))
+
+  pub loss_inactive : inactive h c e t ≡ true → year_loss h rows c e t ≡ no_loss
+  loss_inactive q = loss_none (mm_inactive q)
 
   pub loss_active : inactive h c e t ≡ false → year_loss h rows c e t ≡ loss_of h c row e
   unfolding year_loss loss_of
@@ -216,12 +221,27 @@ module _ (h : Head) (rows : ℕ → ℕ → Row) (c : Cell) (e : Entry) (t : ℕ
   year_kg_lem = omega (arith, emission_grows h c e.oxidised e.burned (year_mm h rows c e t).oxidised (year_mm h rows c e t).burned)
 
   -- a fire leaves the guard dry
-  pub year_dry : 0 < (year_loss h rows c e t).burned → (unconverted e.plan t ≡ false) × (h.guard + (year_loss h rows c e t).burned ≤ drained (rows c.stratum (age e.plan t)))
+  pub year_dry : 0 < (year_loss h rows c e t).burned → (unconverted e.plan t ≡ false) × (h.guard + (year_loss h rows c e t).burned ≤ drained row e.oxidised e.burned)
   unfolding year_loss
   year_dry =
-      mm_is (λ (m : LostMm). 0 < m.burned → (unconverted e.plan t ≡ false) × (h.guard + m.burned ≤ drained row))
+      mm_is (λ (m : LostMm). 0 < m.burned → (unconverted e.plan t ≡ false) × (h.guard + m.burned ≤ drained row e.oxidised e.burned))
       (λ q z. absurd (omega arith))
       (λ q z. ((active h c e t q).0, let m = mm_least h c row e in omega arith))
+
+  -- no more is lost than down to the water, or than was lost before
+  mm_level : (e.oxidised + (year_mm h rows c e t).oxidised) + (e.burned + (year_mm h rows c e t).burned) ≤ max (level_in rows c e.plan t) (e.oxidised + e.burned)
+  mm_level =
+      mm_is (λ (m : LostMm). (e.oxidised + m.oxidised) + (e.burned + m.burned) ≤ max (level_in rows c e.plan t) (e.oxidised + e.burned)) (λ q. omega arith)
+      (λ q. rw (active h c e t q).0 (omega (arith, mm_least h c row e)))
+
+  pub year_level : (e.oxidised + (year_loss h rows c e t).oxidised) + (e.burned + (year_loss h rows c e t).burned) ≤ max (level_in rows c e.plan t) (e.oxidised + e.burned)
+  unfolding year_loss
+  year_level = mm_level
+
+  -- nothing is lost in a year whose water is not below what was lost before
+  pub year_at_water : level_in rows c e.plan t ≤ e.oxidised + e.burned → year_loss h rows c e t ≡ no_loss
+  year_at_water p =
+      loss_none (ap₂ (λ (o b : ℕ). record { oxidised = o; burned = b }) (omega (arith, mm_level)) (omega (arith, mm_level)))
 
   -- by the limits of a valid listing: no more than 2,046 mm are lost, no more than 1,023 mm of them burned
   module _ (head : HeadValid h) (cell : CellValid h.strata h.horizon c) (valid : (s a : ℕ) → RowValid (rows s a)) where

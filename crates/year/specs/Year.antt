@@ -21,9 +21,13 @@ inactive h c e t = e.withdrawn || (unconverted e.plan t || ltb c.entered h.thick
 abbrev pub age : ℕ → ℕ → ℕ
 age plan t = t - plan + 1
 
--- d is 10 times the drainage, counted from this year's surface
-abbrev pub drained : Row → ℕ
-drained r = 10 * r.drainage
+-- a drainage value counts from the surface at conversion: the mm from there down to the water are 10 times the drainage
+abbrev pub water_level : Row → ℕ
+water_level r = 10 * r.drainage
+
+-- a cell's d in a year is 10 times the table value minus O + B at the start of that year, or 0 if that is negative
+abbrev pub drained : Row → ℕ → ℕ → ℕ
+drained r o b = water_level r - (o + b)
 
 -- R: remaining depth is not stored
 abbrev pub remaining : Cell → Entry → ℕ
@@ -39,10 +43,11 @@ oxidised_by d o R burned = min o (min (R - burned) (d - burned))
 
 -- an active cell, with row r: what it burns, and with that what it oxidises
 abbrev pub burned_mm : Head → Cell → Row → Entry → ℕ
-burned_mm h c r e = burned_by h.guard (drained r) r.burning (remaining c e)
+burned_mm h c r e = burned_by h.guard (drained r e.oxidised e.burned) r.burning (remaining c e)
 
 unfoldable pub mm_of : Head → Cell → Row → Entry → LostMm
-mm_of h c r e = record { oxidised = oxidised_by (drained r) r.oxidation (remaining c e) (burned_mm h c r e); burned = burned_mm h c r e }
+mm_of h c r e =
+    record { oxidised = oxidised_by (drained r e.oxidised e.burned) r.oxidation (remaining c e) (burned_mm h c r e); burned = burned_mm h c r e }
 
 -- no mm
 abbrev pub no_mm : LostMm
@@ -51,6 +56,11 @@ no_mm = record { oxidised = 0; burned = 0 }
 -- the mm of a cell's year t: the row is that of the cell's own stratum and of its own age
 unfoldable pub year_mm : Head → (ℕ → ℕ → Row) → Cell → Entry → ℕ → LostMm
 year_mm h rows c e t = cond (inactive h c e t) no_mm (mm_of h c (rows c.stratum (age e.plan t)) e)
+
+-- the water level of a cell with plan year `plan` in year t, by the row of its own stratum and of its own age; 0 while it is not converted.
+-- No more is ever lost than down to it, or than was lost before: proofs/Laws.antt
+abbrev pub level_in : (ℕ → ℕ → Row) → Cell → ℕ → ℕ → ℕ
+level_in rows c plan t = cond (unconverted plan t) 0 (water_level (rows c.stratum (age plan t)))
 
 -- the weight of a burned mm: 1,100,000 − 11,000 × the char percentage + 400 × G × e; that of an oxidised mm is 1,100,000
 unfoldable pub burned_weight : Head → ℕ

@@ -3,7 +3,7 @@
 
 ghost use Rattle.std.specs.Prelude.{◌≡◌, ◌+◌, ◌-◌, ◌^◌, ◌<◌, ◌≤◌, min};
 ghost use Rattle.fields.specs.Valid.{HeadValid, RowValid};
-ghost use Rattle.year.specs.Year.{unconverted, inactive, burned_by, oxidised_by, burned_weight, emission, kg_of, mm_of, loss_of, no_loss, opened, after_loss, planned, marked, most_loss};
+ghost use Rattle.year.specs.Year.{unconverted, inactive, drained, burned_by, oxidised_by, burned_weight, emission, kg_of, mm_of, loss_of, no_loss, opened, after_loss, planned, marked, most_loss};
 ghost use Rattle.year.specs.Limits.{WithinLimits};
 
 use fields::{Cell, Head, Row};
@@ -94,6 +94,15 @@ pub fn inactive(h: Head, c: Cell, e: Entry, year: u32) -> bool
     e.withdrawn | (unconverted(e.plan, year) | (c.entered < h.thickness))
 }
 
+// d: the mm from the surface at the start of the year down to the water, 0 where the surface has sunk to the
+// water or below. The table counts from the surface at conversion, which has sunk by what was lost.
+fn drained(r: Row, e: Entry) -> u32
+    requires { RowValid r × (e.oxidised + e.burned < 2 ^ 32) }
+    ensures { result ≡ drained r e.oxidised e.burned }
+{
+    (10 * r.drainage).saturating_sub(e.oxidised + e.burned)
+}
+
 // What burns of `remaining` mm: the guard above the water stays.
 #[tactic(auto, unfolding(crate::specs::Year::burned_by))]
 fn burned_by(guard: u32, d: u32, b: u32, remaining: u32) -> u32
@@ -146,7 +155,7 @@ pub fn mm_of(h: Head, c: Cell, r: Row, e: Entry) -> LostMm
     ensures { result ≡ mm_of h c r e }
 {
     let remaining = c.entered - (e.oxidised + e.burned);
-    let d = 10 * r.drainage;
+    let d = drained(r, e);
     let burned = burned_by(h.guard, d, r.burning, remaining);
     let oxidised = oxidised_by(d, r.oxidation, remaining, burned);
     LostMm { oxidised, burned }

@@ -1,8 +1,9 @@
 -- A cell's own years: every year is closed, without replanning or withdrawal. They follow from the listing l alone; `EveryYears` says that the
--- book, opened and then closed t times, holds exactly these, and proofs/Held.antt proves it.
-use Rattle.std.specs.Prelude.{◌≡◌, true, List, ℕ, zero, suc, ◌+◌, ◌≤◌, ◌<◌}
-use Rattle.listing.specs.Layout.{cells, horizon}
-use Rattle.year.specs.Year.{after_loss}
+-- book, opened and then closed t times, holds exactly these, and proofs/Held.antt proves it. `EveryLevel` says how deep a cell's losses go, and
+-- proofs/Level.antt proves it.
+use Rattle.std.specs.Prelude.{◌≡◌, true, List, ℕ, zero, suc, ◌+◌, ◌≤◌, ◌<◌, max}
+use Rattle.listing.specs.Layout.{cells, horizon, row, cell}
+use Rattle.year.specs.Year.{level_in, after_loss}
 use Rattle.year.specs.declared.Entry.{Entry}
 use Rattle.year.specs.declared.Loss.{Loss}
 use Rattle.book.specs.Current.{new_book, fitted, Holds}
@@ -32,3 +33,26 @@ pub record HeldYears (l b : List ℕ) (t : ℕ) : Type 0 where
 
 abbrev pub EveryYears : Type 0
 EveryYears = (l b : List ℕ) → (fitted l b).done ≡ true → (t : ℕ) → t ≤ horizon l → HeldYears l b t
+
+-- ---- how deep a cell's losses go
+
+-- the mm that cell i has lost after t years
+abbrev pub lost_after : List ℕ → ℕ → ℕ → ℕ
+lost_after l t i = (entries_after l t i).oxidised + (entries_after l t i).burned
+
+-- its water level in year t, and the deepest of the years 1 to t
+abbrev pub level : List ℕ → ℕ → ℕ → ℕ
+level l t i = level_in (row l) (cell l i) (cell l i).conversion t
+
+unfoldable pub deepest : List ℕ → ℕ → ℕ → ℕ
+deepest l zero i = 0
+deepest l (suc t) i = max (level l (t + 1) i) (deepest l t i)
+
+-- after t years a cell has lost nothing below the deepest water level so far; and as long as no water is below what it has lost, d is 0 and it
+-- rests: after u years it has lost what it had after t
+pub record LevelKept (l : List ℕ) (t i : ℕ) : Type 0 where
+  pub within : lost_after l t i ≤ deepest l t i
+  pub rests : (u : ℕ) → t ≤ u → ((v : ℕ) → t < v → v ≤ u → level l v i ≤ lost_after l t i) → entries_after l u i ≡ entries_after l t i
+
+abbrev pub EveryLevel : Type 0
+EveryLevel = (l : List ℕ) (t i : ℕ) → LevelKept l t i

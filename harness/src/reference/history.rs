@@ -29,7 +29,7 @@ struct OfCell {
     kilograms: i128,
 }
 
-/// A burned line above 0: what stayed dry after the fire, in mm.
+/// A burned line above 0: what stayed dry after the fire, in mm, "above the water of its own year".
 pub struct Fire {
     pub cell: usize,
     pub stayed_dry: i128,
@@ -55,7 +55,9 @@ impl History {
     }
 
     /// "A cell's lines are the numbers that each accepted closing leaves for it in the lines
-    /// buffer." "A cell burned in a year if its burned line is above 0."
+    /// buffer." "A cell burned in a year if its burned line is above 0. What stayed dry after the
+    /// fire is d of that year less this line", and that d goes by "O + B at the start of that
+    /// year": a cell's lines are added to its sums only after its fire.
     pub fn closed(&mut self, lines: &[u32]) -> Vec<Fire> {
         self.closings += 1;
         let mut fires = Vec::new();
@@ -76,12 +78,15 @@ impl History {
         fires
     }
 
-    /// d of the year last closed; "where the plan year is 0 or above the year, d counts as 0".
+    /// d of the year last closed, asked before this year's lines of the cell are added to its sums.
+    /// "O, B .. are the sums of these lines", and "O + B at the start of that year" are the lines
+    /// of the years before; "where the plan year is 0 or above the year, d counts as 0".
     fn d(&self, cell: i128) -> i128 {
         let year = i128::from(self.closings);
-        let plan_year = self.of_cells[index(cell)].plan_year;
-        if is_converted(plan_year, year) {
-            d_of_year(&self.listing, cell, plan_year, year)
+        let sums = &self.of_cells[index(cell)];
+        if is_converted(sums.plan_year, year) {
+            let lost = sums.oxidised + sums.burned;
+            d_of_year(&self.listing, cell, sums.plan_year, year, lost)
         } else {
             0
         }
@@ -108,7 +113,8 @@ impl History {
         self.closings
     }
 
-    /// Guard: "After a fire at least the listing's guard then stays dry".
+    /// Guard: "After a fire at least the listing's guard then stays dry", and "A fire still leaves
+    /// the guard dry above the water of its own year."
     pub fn guard_holds(&self, fire: &Fire) -> bool {
         fire.stayed_dry >= guard(&self.listing)
     }

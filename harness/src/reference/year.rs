@@ -32,10 +32,12 @@ fn word_of_year(listing: &[u32], cell: i128, plan_year: i128, year: i128) -> u32
     word_of_age(listing, stratum(listing, cell), age)
 }
 
-/// "d (10 times the drainage, counted from this year's surface)", in mm, of a cell converted by
-/// this year.
-pub fn d_of_year(listing: &[u32], cell: i128, plan_year: i128, year: i128) -> i128 {
-    10 * drainage(word_of_year(listing, cell, plan_year, year))
+/// "A cell's d in a year is 10 times the table value minus O + B at the start of that year, or 0 if
+/// that is negative", in mm, of a cell converted by this year: "a drainage value counts from the
+/// surface at conversion", and no longer "from this year's surface". `lost` is that O + B.
+pub fn d_of_year(listing: &[u32], cell: i128, plan_year: i128, year: i128, lost: i128) -> i128 {
+    let table_value = drainage(word_of_year(listing, cell, plan_year, year));
+    (10 * table_value - lost).max(0)
 }
 
 /// "burned = the least of b, R, and d − 400 (0 if d is below 400)", for 400 the listing's guard.
@@ -65,13 +67,14 @@ pub fn remaining(listing: &[u32], cell: i128, entry: &Entry) -> i128 {
     entered_depth(listing, cell) - entry.oxidised - entry.burned
 }
 
-/// A cell's oxidised and burned mm of a year.
+/// A cell's oxidised and burned mm of a year, at whose start the book has this entry of the cell.
 fn losses(listing: &[u32], cell: i128, entry: &Entry, year: i128) -> (i128, i128) {
     if !may_lose(listing, cell, entry, year) {
         return (0, 0);
     }
     let word = word_of_year(listing, cell, entry.plan_year, year);
-    let d = d_of_year(listing, cell, entry.plan_year, year);
+    let lost = entry.oxidised + entry.burned;
+    let d = d_of_year(listing, cell, entry.plan_year, year, lost);
     let remaining = remaining(listing, cell, entry);
     let burned = burned(guard(listing), d, greatest_burning(word), remaining);
     let oxidised = oxidised(d, greatest_oxidation(word), remaining, burned);
