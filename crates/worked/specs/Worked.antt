@@ -40,11 +40,15 @@ burns d o b R =
 abbrev pub cell_entered : ℕ → Cell
 cell_entered mm = record { stratum = 0; conversion = 1; entered = mm; area = 10000; density = 500 }
 
+-- its year 1 in a book that says so much is oxidised and burned: burned, oxidised
+abbrev pub loses : List ℕ → ℕ → ℕ → ℕ → List ℕ
+loses l mm o b =
+    let s = year_loss (head l) (table l) (cell_entered mm) (record { withdrawn = false; plan = 1; oxidised = o; burned = b }) 1 in
+    s.burned ∷ s.oxidised ∷ []
+
 -- "Entered .., first row": the cell's first year, with the listing's row of d 700, o 45, b 340
 abbrev pub enters : ℕ → List ℕ
-enters mm =
-    let s = year_loss (head listing) (table listing) (cell_entered mm) (record { withdrawn = false; plan = 1; oxidised = 0; burned = 0 }) 1 in
-    s.burned ∷ s.oxidised ∷ []
+enters mm = loses listing mm 0 0
 
 -- its book as opened, and after each of its years is closed and issued: year, tonnes issued, plan year, O, B
 abbrev pub opened : List ℕ
@@ -97,6 +101,19 @@ char_after_two = 0x80000002 ∷ 0x90000214 ∷ 0xA0000001 ∷ 0xB000005A ∷ 0xC
 -- with the site word and a char percentage of 2: an emission that is not whole
 abbrev pub with_site_and_char : List ℕ
 with_site_and_char = with_words 0x2114190C 0x707D012C
+
+-- three years of one row, d 450 from the benchmark, and the books after each
+abbrev pub benchmark : List ℕ
+benchmark = 0x10010103 ∷ 0x2014190C ∷ 0x32D0B554 ∷ 0x32D0B554 ∷ 0x32D0B554 ∷ 0x400107D0 ∷ 0x527101F4 ∷ []
+
+abbrev pub benchmark_after_one : List ℕ
+benchmark_after_one = 0x80000001 ∷ 0x90000093 ∷ 0xA0000001 ∷ 0xB000002D ∷ 0xC0000032 ∷ []
+
+abbrev pub benchmark_after_two : List ℕ
+benchmark_after_two = 0x80000002 ∷ 0x900000D4 ∷ 0xA0000001 ∷ 0xB000005A ∷ 0xC0000032 ∷ []
+
+abbrev pub benchmark_after_three : List ℕ
+benchmark_after_three = 0x80000003 ∷ 0x90000117 ∷ 0xA0000001 ∷ 0xB0000087 ∷ 0xC0000032 ∷ []
 
 -- the number and the place of a refused listing
 abbrev pub refusal : List ℕ → List ℕ
@@ -192,6 +209,15 @@ rows =
     ∷ row ((statement_answer with_char char_after_two 0).figures.kg ∷ []) (665000 ∷ [])
     ∷ row (take 4 (year with_site_and_char opened)) (45 ∷ 200 ∷ 481833 ∷ 384 ∷ [])
     ∷ row (refusal (with_word_1 0x2FE5190C)) (2 ∷ 1 ∷ [])
+    ∷ row (year benchmark opened) (45 ∷ 50 ∷ 184166 ∷ 147 ∷ benchmark_after_one)
+    ∷ row (year benchmark benchmark_after_one) (45 ∷ 0 ∷ 82500 ∷ 65 ∷ benchmark_after_two)
+    ∷ row (year benchmark benchmark_after_two) (45 ∷ 0 ∷ 82500 ∷ 67 ∷ benchmark_after_three)
+    ∷ row ((statement_answer benchmark benchmark_after_three 0).figures.remaining ∷ []) (1815 ∷ [])
+    ∷ row (loses benchmark 2000 0 49) (1 ∷ 45 ∷ [])
+    ∷ row (loses benchmark 2000 45 5) (0 ∷ 45 ∷ [])
+    ∷ row (loses benchmark 2000 206 200) (0 ∷ 44 ∷ [])
+    ∷ row (loses benchmark 2000 250 200) (0 ∷ 0 ∷ [])
+    ∷ row (loses benchmark 2000 451 0) (0 ∷ 0 ∷ [])
     ∷ row (logged_test 2 1 (100 ∷ 50 ∷ 30 ∷ []) (10 ∷ 10 ∷ []) (8000 ∷ [])) (0 ∷ 0 ∷ 72 ∷ 0 ∷ [])
     ∷ row (logged_test 3 2 densities areas discounts) (0 ∷ 0 ∷ 2153 ∷ 0 ∷ [])
     ∷ row (logged_test 3 2 (zeros 8) areas discounts) (0 ∷ 0 ∷ 0 ∷ 1 ∷ [])

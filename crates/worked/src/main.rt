@@ -293,13 +293,14 @@ fn neighbours(rt: &impl Print) {
     second_cell_year(rt, &l, &mut b, &mut x);
 }
 
-// A listing of one cell: open, two years with their issues, and the mm left.
-fn two_years(rt: &impl Print, name: &str, l: &[u32]) {
+// A listing of one cell: open, so many years with their issues, and the mm left.
+fn years(rt: &impl Print, name: &str, count: u32, l: &[u32]) {
     let mut b = [0u32; 5];
     let mut x = [0u32; 3];
     print_outcome(rt, name, ledger::open(l, &mut b));
-    year(rt, l, &mut b, &mut x, 0);
-    year(rt, l, &mut b, &mut x, 0);
+    for _ in 0..count {
+        year(rt, l, &mut b, &mut x, 0);
+    }
     print_left(rt, "left", l, &b[..], 0);
 }
 
@@ -315,9 +316,9 @@ fn site(rt: &impl Print) {
         0x4001_07d0,
         0x5271_01f4,
     ];
-    two_years(rt, "open with a site word", &l);
+    years(rt, "open with a site word", 2, &l);
     l[1] = 0x2114_190c;
-    two_years(rt, "open with a site word and char percentage 2", &l);
+    years(rt, "open with a site word and char percentage 2", 2, &l);
     l[1] = 0x2014_190c;
     l[2] = 0x707d_07d1;
     print_check(rt, "least thickness 2,001", &l);
@@ -353,13 +354,27 @@ fn char_left(rt: &impl Print) {
         0x4001_07d0,
         0x5271_01f4,
     ];
-    two_years(rt, "open with char percentage 20", &l);
+    years(rt, "open with char percentage 20", 2, &l);
     l[1] = 0x2094_190c;
-    two_years(rt, "open with char percentage 1", &l);
+    years(rt, "open with char percentage 1", 2, &l);
     l[1] = 0x2f94_190c;
-    two_years(rt, "open with char percentage 31", &l);
+    years(rt, "open with char percentage 31", 2, &l);
     l[1] = 0x2fe5_190c;
     print_check(rt, "char percentage 31, buffer 101 percent", &l);
+}
+
+// Three years of one row, 45 cm from the benchmark: the fire of year 1 leaves the guard, and then none burns.
+fn benchmark(rt: &impl Print) {
+    let l = [
+        0x1001_0103u32,
+        0x2014_190c,
+        0x32d0_b554,
+        0x32d0_b554,
+        0x32d0_b554,
+        0x4001_07d0,
+        0x5271_01f4,
+    ];
+    years(rt, "open with three rows of 45 cm", 3, &l);
 }
 
 // Two years of one stratum, with none taken off.
