@@ -31,6 +31,19 @@ pub const SITE_WORD: u32 = 0x707D012C;
 
 pub const SITE_WORD_TEXT: &str = two_years!("1 45 200 489166 391", "2 45 0 82500 65", "1710");
 
+/// Three years, each with a drainage of 45 cm from the surface at conversion: the fire of
+/// year 1 leaves the guard, and no later one can.
+pub const BENCHMARK: [u32; 7] = [
+    0x10010103, 0x2014190C, 0x32D0B554, 0x32D0B554, 0x32D0B554, 0x400107D0, 0x527101F4,
+];
+
+pub const BENCHMARK_TEXT: &str = "year ox burn kg issued
+1 45 50 184166 147
+2 45 0 82500 65
+3 45 0 82500 67
+left 1815
+";
+
 /// The worked listing with that word, or another, as word 2, before the tables.
 pub fn with_site_word(word: u32) -> Vec<u32> {
     [&WORKED[..2], &[word], &WORKED[2..]].concat()

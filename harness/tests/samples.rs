@@ -1,7 +1,7 @@
 //! The files of samples/: companions against the bytes, expected texts against the reference and what was worked on paper.
 use harness::sample::{
-    with_site_word, worked_with, CHAR_TEXT, CHAR_WORD, NEGATIVE_TERM, NEGATIVE_TERM_TEXT,
-    SITE_WORD, SITE_WORD_TEXT, WORKED, WORKED_TEXT,
+    with_site_word, worked_with, BENCHMARK, BENCHMARK_TEXT, CHAR_TEXT, CHAR_WORD, NEGATIVE_TERM,
+    NEGATIVE_TERM_TEXT, SITE_WORD, SITE_WORD_TEXT, WORKED, WORKED_TEXT,
 };
 use harness::{reference, sample};
 use std::fs;
@@ -132,11 +132,19 @@ fn worked_ones_are_those_worked_on_paper() {
             SITE_WORD_TEXT,
         ),
         ("worked-char", worked_with(1, CHAR_WORD), CHAR_TEXT),
+        ("worked-benchmark", BENCHMARK.to_vec(), BENCHMARK_TEXT),
     ];
     for (name, words, printed) in worked {
         assert_eq!(read(name, "bin"), sample::bytes(&words));
         assert_eq!(text(name, "expected"), printed);
     }
+}
+
+/// Tables taken as made for the old rule give by the new one, converted, what they gave by the old one.
+#[test]
+fn converted_tables_keep_the_lines() {
+    let before = "year ox burn kg issued\n1 40 100 332000 325\n2 80 300 908000 407\n3 70 0 154000 163\nleft 4660\n";
+    assert_eq!(text("three-cells-converted", "expected"), before);
 }
 
 #[test]

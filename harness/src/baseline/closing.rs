@@ -38,11 +38,9 @@ fn close_cell(
     }
     let row = (bits(depth, 27, 24) * listing.horizon + year - plan_year) as usize;
     let (oxidised, burned) = (bits(*oxidised_word, 27, 0), bits(*burned_word, 27, 0));
-    let (more_oxidised, more_burned) = loss(
-        listing.guard,
-        listing.tables[row],
-        entered - oxidised - burned,
-    );
+    let lost = oxidised + burned;
+    let (more_oxidised, more_burned) =
+        loss(listing.guard, listing.tables[row], lost, entered - lost);
     let before = emission(listing.burned_weight, area, oxidised, burned);
     let after = emission(
         listing.burned_weight,

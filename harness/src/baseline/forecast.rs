@@ -37,7 +37,8 @@ fn run_cell(listing: &Listing, [depth, area]: [u32; 2], output: &mut [u64]) -> (
     }
     let table = &listing.tables[bits(depth, 27, 24) as usize * output.len()..];
     for (&row, kg) in table.iter().zip(&mut output[plan_year - 1..]) {
-        let (more_oxidised, more_burned) = loss(listing.guard, row, entered - oxidised - burned);
+        let lost = oxidised + burned;
+        let (more_oxidised, more_burned) = loss(listing.guard, row, lost, entered - lost);
         oxidised += more_oxidised;
         burned += more_burned;
         let after = emission(listing.burned_weight, area, oxidised, burned);

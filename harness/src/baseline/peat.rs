@@ -11,10 +11,11 @@ pub fn most_loss(thickness: u32, depth: u32) -> u32 {
     }
 }
 
-/// Oxidised and burned mm of a year: the row's limits, and no more than remains; a fire leaves the guard dry.
+/// Oxidised and burned mm of a year, of a cell of which `lost` mm are gone and `remaining` are left: the
+/// row's limits, no more than remains, and nothing below the water; a fire leaves the guard dry.
 #[inline(always)]
-pub fn loss(guard: u32, row: u32, remaining: u32) -> (u32, u32) {
-    let drainage = 10 * bits(row, 27, 20);
+pub fn loss(guard: u32, row: u32, lost: u32, remaining: u32) -> (u32, u32) {
+    let drainage = (10 * bits(row, 27, 20)).saturating_sub(lost);
     let burned = bits(row, 9, 0)
         .min(remaining)
         .min(drainage.saturating_sub(guard));

@@ -1,5 +1,7 @@
 //! Writes samples/: NAME.bin as peatrun reads it, NAME.txt in plain words, NAME.expected as it must print.
-use harness::sample::{self, CHAR_TEXT, NEGATIVE_TERM_TEXT, SITE_WORD_TEXT, WORKED_TEXT};
+use harness::sample::{
+    self, BENCHMARK_TEXT, CHAR_TEXT, NEGATIVE_TERM_TEXT, SITE_WORD_TEXT, WORKED_TEXT,
+};
 use harness::site::{Cell, Content, Row, Site, SiteWord, YearlyTerm};
 use harness::{generate, reference};
 use std::fs;
@@ -127,6 +129,25 @@ fn three_cells() -> Site {
     }
 }
 
+/// Three ages of one row, so that a later year has less above the water.
+fn benchmark() -> Site {
+    let mut site = worked();
+    site.horizon = 3;
+    site.tables = vec![vec![row(45, 45, 340); 3]];
+    site
+}
+
+/// The tables of the three cells, taken as made for the rule that counted from each year's surface:
+/// what was lost by then, 140 and 170 mm of stratum 1, 350 and 390 mm of stratum 0, is added.
+fn three_cells_converted() -> Site {
+    let mut site = three_cells();
+    site.tables[0][1].drainage += 35;
+    site.tables[0][2].drainage += 39;
+    site.tables[1][1].drainage += 14;
+    site.tables[1][2].drainage += 17;
+    site
+}
+
 /// A country that keeps 250 mm dry and counts peat from 200 mm on.
 fn thin_peat() -> Site {
     Site {
@@ -202,12 +223,19 @@ fn accepted() -> Vec<Sample> {
         Sample::of("worked-site-word", SITE_WORD_ABOUT, &site_word.contents())
             .expecting(SITE_WORD_TEXT),
         Sample::of("worked-char", CHAR_ABOUT, &char.contents()).expecting(CHAR_TEXT),
+        Sample::of("worked-benchmark", BENCHMARK_ABOUT, &benchmark().contents())
+            .expecting(BENCHMARK_TEXT),
         Sample::of("thin-peat", THIN_PEAT_ABOUT, &thin_peat().contents()),
         Sample::of("three-cells", THREE_CELLS_ABOUT, &three_cells().contents()),
         Sample::of(
             "three-cells-char",
             THREE_CELLS_CHAR_ABOUT,
             &three_cells_char.contents(),
+        ),
+        Sample::of(
+            "three-cells-converted",
+            THREE_CELLS_CONVERTED_ABOUT,
+            &three_cells_converted().contents(),
         ),
         Sample::of("unsorted", UNSORTED_ABOUT, &unsorted().contents()),
         Sample::of("largest", LARGEST_ABOUT, &generate::largest().contents()),
@@ -271,6 +299,10 @@ const CHAR_ABOUT: &str = "\
 The worked listing with a char percentage of 20 in word 1: a fifth of the carbon that burns is left as char.
 Year 1 burns the same 300 mm, and emits 5,000,000 x 11,000 x 20 x 300 / 3,000,000,000 = 110,000 kg less. Year 2 burns nothing.";
 
+const BENCHMARK_ABOUT: &str = "\
+The worked listing with three years of one row, 45 cm. A drainage counts from the surface at conversion, 450 mm above the water.
+Year 1 burns 50 mm down to the guard and oxidises 45, so the surface sinks 95 mm. Year 2 begins 355 mm above the water, below the guard: no fire.";
+
 const THIN_PEAT_ABOUT: &str = "\
 Three hectare cells of a site with a guard of 250 mm and a least thickness of peat of 200 mm; both stand in word 2.
 Cell 0 has just the least thickness, and burns 150 mm in year 1, the drainage of 400 mm less the guard.
@@ -287,6 +319,11 @@ Terms: avoided deforestation (1) and harvest areas (4) add, displaced conversion
 const THREE_CELLS_CHAR_ABOUT: &str = "\
 The site of three-cells.txt with a char percentage of 13: word 1's second to fourth digit are 13 x 128 + 20 = 1,684, hexadecimal 694.
 Each burned mm has the factor 1,100,000 - 143,000 + 400 x 25 x 12 = 1,077,000 instead of 1,220,000; nothing else differs.";
+
+const THREE_CELLS_CONVERTED_ABOUT: &str = "\
+The site of three-cells.txt, its tables taken as made for the old rule, by which a drainage counted from each year's surface, and converted:
+to each drainage is added what a cell of the stratum has lost by then, 35 and 39 cm of stratum 0, 14 and 17 cm of stratum 1.
+Each d is then what it was by the old rule, and so is each line.";
 
 const UNSORTED_ABOUT: &str = "\
 Seven cells of four strata, not sorted by stratum; each stratum has figures of its own.
