@@ -11,10 +11,10 @@ use Rattle.opening.specs.Opening.{open_entry}
 use Rattle.ledger.specs.Calls.{open_effect, figures_of, statement_answer, Call}
 use Rattle.ledger.proofs.AdmittedCell.{cell_admitted}
 use Rattle.ledger.proofs.After.{opened_holds}
-use Rattle.history.specs.History.{State, next, run, BroughtForward, brought_forward_by_open, year_in, plan_in, sum_of, issued_in, highest, EachClosing, d_of, EveryUnconverted, deepest, EveryLevel}
+use Rattle.history.specs.History.{State, next, run, BroughtForward, brought_forward_by_open, year_in, plan_in, sum_of, issued_in, highest, EachClosing, d_of, EveryUnconverted, deepest, EveryDrained}
 use Rattle.history.specs.History.{Claims, EveryList, IsBroughtForward, EveryListFrom}
 use Rattle.book.proofs.AcceptedBook.{shaped, accepted_book}
-use Rattle.history.proofs.Invariant.{Inv, kept_step}
+use Rattle.history.proofs.Invariant.{Inv, d_same, kept_step}
 
 -- before the first call
 kept_start : (l b : List ℕ) (s : BroughtForward) → (admitted l b).done ≡ true → IsBroughtForward l b s → Inv l s b []
@@ -81,9 +81,12 @@ module _ (l b : List ℕ) (done : (open_effect l b).answer.done ≡ true) where
 pub every_list : EveryList
 every_list l b done = every_list_from l (open_effect l b).book (brought_forward_by_open l) (holds l b done).admits (brings_nothing l b done)
 
--- beside the claims: no cell loses anything below its deepest water level
-pub every_level : EveryLevel
-every_level l b done calls = (kept_list l (open_effect l b).book (brought_forward_by_open l) (holds l b done).admits (brings_nothing l b done) calls).level
+-- beside the claims: no cell loses anything below its deepest water level, and the lines give the d that the book gives
+pub every_drained : EveryDrained
+every_drained l b done calls i p =
+    let s = brought_forward_by_open l in
+    let kept = kept_list l (open_effect l b).book s (holds l b done).admits (brings_nothing l b done) calls in
+    record { within = kept.level i p; d_is = d_same l s _ _ kept i p }
 
 -- and d of a cell that is not converted
 pub every_unconverted : EveryUnconverted

@@ -21,7 +21,7 @@ use Rattle.closing.specs.Closing.{loss}
 use Rattle.ledger.specs.Calls.{close_effect, replan_effect, withdraw_effect, issue_effect, Call, Close, Replan, Withdraw, Issue, call_effect}
 use Rattle.ledger.proofs.After.{closed_holds, closed_line, replanned_holds, withdrawn_holds, issued_holds, issued_value, call_refused}
 use Rattle.history.specs.History.{event_of, step, Event, Lines, Replanned, Issued, Nothing, History, BroughtForward, year_in, plan_in, sum_of, oxidised_in, burned_in, kg_in}
-use Rattle.history.specs.History.{issued_in, balance_at, highest, EachClosing, d_of, StayedDry, deepest}
+use Rattle.history.specs.History.{issued_in, balance_at, highest, EachClosing, d_of, StayedDry, deepest, d_in_book}
 
 -- the book b is admitted and says what the history h says, and the claims hold of h. A record type with no name: at an event that
 -- changes nothing it computes to itself, and the old proof is the new one
@@ -46,6 +46,11 @@ plan_of_lem true x y u w e f = e
 plan_of_lem false x y u w e f = f
 
 module _ (l : List ℕ) (s : BroughtForward) (b : List ℕ) (h : History) (v : Inv l s b h) where
+  -- the lines give the d that the book gives
+  pub d_same : (i : ℕ) → i < cells l → d_of l s h i ≡ d_in_book l b i
+  unfolding d_of
+  d_same i p = rw (v.year_is, v.plan_is i p, v.oxidised_is i p, v.burned_is i p, add-one (year_in s h)) refl
+
   -- ---- a call that gives nothing and leaves the book
   kept_nothing : (b' : List ℕ) → b' ≡ b → Inv l s b' (Nothing ∷ h)
   unfolding year_in plan_in sum_of issued_in highest EachClosing deepest
@@ -60,10 +65,9 @@ module _ (l : List ℕ) (s : BroughtForward) (b : List ℕ) (h : History) (v : I
         rw (v.kilograms i p, ← (v.oxidised_is i p), ← (v.burned_is i p)) (year_kg_lem (head l) (row l) (cell l i) (entry b i) (year b + 1))
 
     closed_dry : (i : ℕ) → i < cells l → 0 < (loss l b i).burned → (head l).guard + (loss l b i).burned ≤ d_of l s h i
-    unfolding d_of
     closed_dry i p lt =
         let d = year_dry (head l) (row l) (cell l i) (entry b i) (year b + 1) lt in
-        rw (← v.year_is, ← (v.plan_is i p), ← (v.oxidised_is i p), ← (v.burned_is i p), ← (add-one (year b)), d.0) d.1
+        rw (d_same i p, d.0) d.1
 
     closed_level : (i : ℕ) → i < cells l →
         (oxidised_in s h i + (loss l b i).oxidised) + (burned_in s h i + (loss l b i).burned)

@@ -166,6 +166,12 @@ EveryList = (l b : List ℕ) → (open_effect l b).answer.done ≡ true → (cal
 
 -- ---- beside the claims: how deep a cell's losses go
 
+-- d of cell i in the year after the current one, by its entry in the book
+abbrev pub d_in_book : List ℕ → List ℕ → ℕ → ℕ
+d_in_book l b i =
+    let e = entry b i in
+    cond (unconverted e.plan (year b + 1)) 0 (drained (row l (cell l i).stratum (age e.plan (year b + 1))) e.oxidised e.burned)
+
 -- the deepest water level of cell i in the years of the closings, or what was counted as lost before the list (0) if no water was below it
 unfoldable pub deepest : List ℕ → BroughtForward → History → ℕ → ℕ
 deepest l s [] i = s.oxidised i + s.burned i
@@ -174,13 +180,17 @@ deepest l s (Replanned j y ∷ h) i = deepest l s h i
 deepest l s (Issued t ∷ h) i = deepest l s h i
 deepest l s (Nothing ∷ h) i = deepest l s h i
 
--- no more was lost of a cell than down to there: nothing that no canal had drained
-abbrev pub WithinLevel : List ℕ → BroughtForward → State → Type 0
-WithinLevel l s state = (i : ℕ) → i < cells l → oxidised_in s state.history i + burned_in s state.history i ≤ deepest l s state.history i
+-- of cell i: nothing was lost that no canal had drained; and d of the claims, by the lines handed out, is that by which the next closing works,
+-- by the book
+pub record DrainedClaims (l : List ℕ) (s : BroughtForward) (state : State) (i : ℕ) : Type 0 where
+  pub within : oxidised_in s state.history i + burned_in s state.history i ≤ deepest l s state.history i
+  pub d_is : d_of l s state.history i ≡ d_in_book l state.book i
 
 -- for every listing and book that open accepts, and every list of calls on them, refused ones included; proofs/EveryList.antt proves it
-abbrev pub EveryLevel : Type 0
-EveryLevel = (l b : List ℕ) → (open_effect l b).answer.done ≡ true → (calls : List Call) → WithinLevel l (brought_forward_by_open l) (run l (record { book = (open_effect l b).book; history = [] }) calls)
+abbrev pub EveryDrained : Type 0
+EveryDrained =
+    (l b : List ℕ) → (open_effect l b).answer.done ≡ true → (calls : List Call) → (i : ℕ) → i < cells l →
+    DrainedClaims l (brought_forward_by_open l) (run l (record { book = (open_effect l b).book; history = [] }) calls) i
 
 -- ---- the same from any book that a call accepts, with what it brings forward counted as given before
 
