@@ -11,14 +11,14 @@ use Rattle.opening.specs.Opening.{open_entry}
 use Rattle.ledger.specs.Calls.{open_effect, figures_of, statement_answer, Call}
 use Rattle.ledger.proofs.AdmittedCell.{cell_admitted}
 use Rattle.ledger.proofs.After.{opened_holds}
-use Rattle.history.specs.History.{State, next, run, BroughtForward, brought_forward_by_open, year_in, plan_in, sum_of, issued_in, highest, EachClosing, d_of, EveryUnconverted, deepest, EveryDrained}
+use Rattle.history.specs.History.{State, next, run, BroughtForward, brought_forward_by_open, year_in, plan_in, sum_of, issued_in, highest, EachClosing, d_of, EveryUnconverted, deepest_level_in, EveryDrained, EveryDrainedFrom}
 use Rattle.history.specs.History.{Claims, EveryList, IsBroughtForward, EveryListFrom}
 use Rattle.book.proofs.AcceptedBook.{shaped, accepted_book}
-use Rattle.history.proofs.Invariant.{Inv, d_same, kept_step}
+use Rattle.history.proofs.Invariant.{Inv, closed_lines_by_d, kept_step}
 
 -- before the first call
 kept_start : (l b : List ℕ) (s : BroughtForward) → (admitted l b).done ≡ true → IsBroughtForward l b s → Inv l s b []
-unfolding year_in plan_in sum_of issued_in highest EachClosing deepest
+unfolding year_in plan_in sum_of issued_in highest EachClosing deepest_level_in
 kept_start l b s admits brought =
     record {
       admits = admits;
@@ -62,6 +62,12 @@ kept_list l b s admits brought calls = kept_run l s (record { book = b; history 
 pub every_list_from : EveryListFrom
 every_list_from l b s admits brought calls = claims l s _ (kept_list l b s admits brought calls)
 
+-- beside the claims: what was drained
+pub every_drained_from : EveryDrainedFrom
+every_drained_from l b s admits brought calls i p =
+    let kept = kept_list l b s admits brought calls in
+    record { within = kept.level i p; lines = λ x done q. closed_lines_by_d l s _ _ kept x done i p q }
+
 module _ (l b : List ℕ) (done : (open_effect l b).answer.done ≡ true) where
   holds : Holds l (open_effect l b).book 0 0 (open_entry l)
   holds = opened_holds l b done
@@ -81,12 +87,8 @@ module _ (l b : List ℕ) (done : (open_effect l b).answer.done ≡ true) where
 pub every_list : EveryList
 every_list l b done = every_list_from l (open_effect l b).book (brought_forward_by_open l) (holds l b done).admits (brings_nothing l b done)
 
--- beside the claims: no cell loses anything below its deepest water level, and the lines give the d that the book gives
 pub every_drained : EveryDrained
-every_drained l b done calls i p =
-    let s = brought_forward_by_open l in
-    let kept = kept_list l (open_effect l b).book s (holds l b done).admits (brings_nothing l b done) calls in
-    record { within = kept.level i p; d_is = d_same l s _ _ kept i p }
+every_drained l b done = every_drained_from l (open_effect l b).book (brought_forward_by_open l) (holds l b done).admits (brings_nothing l b done)
 
 -- and d of a cell that is not converted
 pub every_unconverted : EveryUnconverted

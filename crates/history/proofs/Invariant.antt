@@ -10,9 +10,9 @@ use Rattle.words.specs.Bits.{at_least_0}
 use Rattle.words.proofs.Signed.{by_test}
 use Rattle.listing.specs.Layout.{head, cells, row, cell}
 use Rattle.year.specs.declared.Entry.{Entry}
-use Rattle.year.specs.Year.{level_in, emission}
+use Rattle.year.specs.Year.{inactive, drainage_level_in, emission}
 use Rattle.year.specs.Year.{planned, marked}
-use Rattle.year.proofs.Laws.{year_kg_lem, year_dry, year_level}
+use Rattle.year.proofs.Laws.{active, mm_by_d, year_kg_lem, year_dry, year_level}
 use Rattle.book.specs.Current.{issued, entry, kg_to_date, admitted, Holds}
 use Rattle.book.specs.Layout.{year}
 use Rattle.balance.specs.Balance.{balance_in}
@@ -21,7 +21,7 @@ use Rattle.closing.specs.Closing.{loss}
 use Rattle.ledger.specs.Calls.{close_effect, replan_effect, withdraw_effect, issue_effect, Call, Close, Replan, Withdraw, Issue, call_effect}
 use Rattle.ledger.proofs.After.{closed_holds, closed_line, replanned_holds, withdrawn_holds, issued_holds, issued_value, call_refused}
 use Rattle.history.specs.History.{event_of, step, Event, Lines, Replanned, Issued, Nothing, History, BroughtForward, year_in, plan_in, sum_of, oxidised_in, burned_in, kg_in}
-use Rattle.history.specs.History.{issued_in, balance_at, highest, EachClosing, d_of, StayedDry, deepest, d_in_book}
+use Rattle.history.specs.History.{issued_in, balance_at, highest, EachClosing, d_of, StayedDry, deepest_level_in, LinesByD}
 
 -- the book b is admitted and says what the history h says, and the claims hold of h. A record type with no name: at an event that
 -- changes nothing it computes to itself, and the old proof is the new one
@@ -36,7 +36,7 @@ Inv l s b h =
       burned_is : (i : ℕ) → i < cells l → (entry b i).burned ≡ burned_in s h i;
       kilograms : (i : ℕ) → i < cells l → kg_in s h i ≡ emission (head l) (cell l i) (oxidised_in s h i) (burned_in s h i);
       dry : (i : ℕ) → i < cells l → EachClosing (StayedDry l s i) h;
-      level : (i : ℕ) → i < cells l → oxidised_in s h i + burned_in s h i ≤ deepest l s h i;
+      level : (i : ℕ) → i < cells l → oxidised_in s h i + burned_in s h i ≤ deepest_level_in l s h i;
       top : issued_in s h ≡ highest l s h;
     }
 
@@ -46,14 +46,9 @@ plan_of_lem true x y u w e f = e
 plan_of_lem false x y u w e f = f
 
 module _ (l : List ℕ) (s : BroughtForward) (b : List ℕ) (h : History) (v : Inv l s b h) where
-  -- the lines give the d that the book gives
-  pub d_same : (i : ℕ) → i < cells l → d_of l s h i ≡ d_in_book l b i
-  unfolding d_of
-  d_same i p = rw (v.year_is, v.plan_is i p, v.oxidised_is i p, v.burned_is i p, add-one (year_in s h)) refl
-
   -- ---- a call that gives nothing and leaves the book
   kept_nothing : (b' : List ℕ) → b' ≡ b → Inv l s b' (Nothing ∷ h)
-  unfolding year_in plan_in sum_of issued_in highest EachClosing deepest
+  unfolding year_in plan_in sum_of issued_in highest EachClosing deepest_level_in
   kept_nothing b' e = rw e v
 
   -- ---- a closing with a lines buffer x
@@ -65,19 +60,32 @@ module _ (l : List ℕ) (s : BroughtForward) (b : List ℕ) (h : History) (v : I
         rw (v.kilograms i p, ← (v.oxidised_is i p), ← (v.burned_is i p)) (year_kg_lem (head l) (row l) (cell l i) (entry b i) (year b + 1))
 
     closed_dry : (i : ℕ) → i < cells l → 0 < (loss l b i).burned → (head l).guard + (loss l b i).burned ≤ d_of l s h i
+    unfolding d_of
     closed_dry i p lt =
         let d = year_dry (head l) (row l) (cell l i) (entry b i) (year b + 1) lt in
-        rw (d_same i p, d.0) d.1
+        rw (← v.year_is, ← (v.plan_is i p), ← (add-one (year b)), d.0) (omega (arith, d.1, v.oxidised_is i p, v.burned_is i p))
+
+    -- an active cell's lines go by d of the claims
+    pub closed_lines_by_d : (i : ℕ) → i < cells l → inactive (head l) (cell l i) (entry b i) (year b + 1) ≡ false → LinesByD l s i (close_effect l b x).output h
+    unfolding d_of
+    closed_lines_by_d i p q =
+        let rule = mm_by_d (head l) (row l) (cell l i) (entry b i) (year b + 1) q in
+        let converted = (active (head l) (cell l i) (entry b i) (year b + 1) q).0 in
+        let line = closed_line l b x done i p in
+        record {
+          burned = line.1 ∙ rw (← v.year_is, ← (v.plan_is i p), ← (v.oxidised_is i p), ← (v.burned_is i p), ← (add-one (year b)), converted) rule.0;
+          oxidised = line.0 ∙ rw (line.1, ← v.year_is, ← (v.plan_is i p), ← (v.oxidised_is i p), ← (v.burned_is i p), ← (add-one (year b)), converted) rule.1;
+        }
 
     closed_level : (i : ℕ) → i < cells l →
         (oxidised_in s h i + (loss l b i).oxidised) + (burned_in s h i + (loss l b i).burned)
-        ≤ max (level_in (row l) (cell l i) (plan_in s h i) (suc (year_in s h))) (deepest l s h i)
+        ≤ max (drainage_level_in (row l) (cell l i) (plan_in s h i) (suc (year_in s h))) (deepest_level_in l s h i)
     closed_level i p =
         let most = year_level (head l) (row l) (cell l i) (entry b i) (year b + 1) in
         rw (← v.year_is, ← (v.plan_is i p), ← (add-one (year b))) (omega (arith, most, v.level i p, v.oxidised_is i p, v.burned_is i p))
 
     kept_close : Inv l s (close_effect l b x).book (Lines (close_effect l b x).output ∷ h)
-    unfolding year_in plan_in sum_of issued_in highest EachClosing deepest
+    unfolding year_in plan_in sum_of issued_in highest EachClosing deepest_level_in
     kept_close =
         let holds = closed_holds l b x done in
         let line = closed_line l b x done in
@@ -101,7 +109,7 @@ module _ (l : List ℕ) (s : BroughtForward) (b : List ℕ) (h : History) (v : I
         ap f (holds.entry_is j p) ∙ by_test (λ (e : Entry). f e ≡ f (entry b j)) (eqb i j) (change (entry b j)) (entry b j) (λ here. keeps (entry b j)) (λ other. refl)
 
   kept_replan : (i y : ℕ) → (replan_effect l b i y).answer.done ≡ true → Inv l s (replan_effect l b i y).book (Replanned i y ∷ h)
-  unfolding year_in plan_in sum_of issued_in highest EachClosing deepest
+  unfolding year_in plan_in sum_of issued_in highest EachClosing deepest_level_in
   kept_replan i y done =
       let holds = replanned_holds l b i y done in
       let same = same_field (replan_effect l b i y).book i (λ (e : Entry). planned e y) holds in
@@ -119,7 +127,7 @@ module _ (l : List ℕ) (s : BroughtForward) (b : List ℕ) (h : History) (v : I
       }
 
   kept_withdraw : (i : ℕ) → (withdraw_effect l b i).answer.done ≡ true → Inv l s (withdraw_effect l b i).book (Nothing ∷ h)
-  unfolding year_in plan_in sum_of issued_in highest EachClosing deepest
+  unfolding year_in plan_in sum_of issued_in highest EachClosing deepest_level_in
   kept_withdraw i done =
       let holds = withdrawn_holds l b i done in
       let same = same_field (withdraw_effect l b i).book i marked holds in
@@ -141,7 +149,7 @@ module _ (l : List ℕ) (s : BroughtForward) (b : List ℕ) (h : History) (v : I
   balance_is = balance_same l (year b) (year_in s h) (kg_to_date l b) (kg_in s h) v.year_is (λ i p. rw (v.kilograms i p, v.oxidised_is i p, v.burned_is i p))
 
   kept_issue : (issue_effect l b).answer.done ≡ true → Inv l s (issue_effect l b).book (Issued (issue_effect l b).answer.value ∷ h)
-  unfolding year_in plan_in sum_of issued_in highest EachClosing deepest
+  unfolding year_in plan_in sum_of issued_in highest EachClosing deepest_level_in
   kept_issue done =
       let holds = issued_holds l b done in
       record {

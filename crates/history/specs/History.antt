@@ -1,14 +1,16 @@
--- Document 01, "Lists of calls": what holds after every list of calls on one listing l and its book. The figures of the claims are read off
--- the listing and off what the calls gave, and not off the book. `EveryList`, towards the end, is the theorem; proofs/EveryList.antt proves it.
-use Rattle.std.specs.Prelude.{◌≡◌, true, cond, List, [], ◌∷◌, ℕ, suc, ◌+◌, ◌≤◌, ◌<◌, max, eqb, ℤ}
+-- Document 01, "Lists of calls", with the drainage of document 02: what holds after every list of calls on one listing l and its book. The
+-- figures of the claims are read off the listing and off what the calls gave, and not off the book. `EveryList`, towards the end, is the
+-- theorem; proofs/EveryList.antt proves it.
+use Rattle.std.specs.Prelude.{◌≡◌, true, cond, List, [], ◌∷◌, ℕ, suc, ◌+◌, ◌-◌, ◌≤◌, ◌<◌, max, eqb, false, ℤ}
 use Rattle.words.specs.Bits.{at_least_0}
 use Rattle.words.specs.Effect.{Effect}
+use Rattle.fields.specs.declared.Row.{Row}
 use Rattle.listing.specs.Layout.{head, cells, guard, row, cell}
-use Rattle.year.specs.Year.{unconverted, age, drained, level_in, emission}
+use Rattle.year.specs.Year.{unconverted, inactive, age, drained, burned_by, oxidised_by, drainage_level_in, emission}
 use Rattle.book.specs.Current.{issued, entry, admitted}
 use Rattle.book.specs.Layout.{year, oxidised_line, burned_line, kg_line}
 use Rattle.balance.specs.Balance.{balance}
-use Rattle.ledger.specs.Calls.{open_effect, statement_answer, Call, Close, Replan, Withdraw, Issue, call_effect}
+use Rattle.ledger.specs.Calls.{open_effect, close_effect, statement_answer, Call, Close, Replan, Withdraw, Issue, call_effect}
 
 -- ---- a list of calls
 
@@ -131,13 +133,14 @@ EachClosing P (Replanned j y ∷ h) = EachClosing P h
 EachClosing P (Issued t ∷ h) = EachClosing P h
 EachClosing P (Nothing ∷ h) = EachClosing P h
 
--- d of cell i in the year after the history `before`, O and B being the sums of the lines handed out before; where the plan year is 0 or
--- above the year, d counts as 0
+-- the row of cell i in the year after the history `before`, by its own stratum and age
+abbrev pub row_of : List ℕ → BroughtForward → History → ℕ → Row
+row_of l s before i = row l (cell l i).stratum (age (plan_in s before i) (suc (year_in s before)))
+
+-- d of cell i in that year, O and B being the sums of the lines handed out before; where the plan year is 0 or above the year, d counts as 0
 unfoldable pub d_of : List ℕ → BroughtForward → History → ℕ → ℕ
 d_of l s before i =
-    let plan = plan_in s before i in
-    let year = suc (year_in s before) in
-    cond (unconverted plan year) 0 (drained (row l (cell l i).stratum (age plan year)) (oxidised_in s before i) (burned_in s before i))
+    cond (unconverted (plan_in s before i) (suc (year_in s before))) 0 (drained (row_of l s before i) (oxidised_in s before i) (burned_in s before i))
 
 -- so d is 0 for every cell that is not converted by then; proofs/EveryList.antt proves it
 abbrev pub EveryUnconverted : Type 0
@@ -164,27 +167,29 @@ pub record Claims (l : List ℕ) (s : BroughtForward) (state : State) : Type 0 w
 abbrev pub EveryList : Type 0
 EveryList = (l b : List ℕ) → (open_effect l b).answer.done ≡ true → (calls : List Call) → Claims l (brought_forward_by_open l) (run l (record { book = (open_effect l b).book; history = [] }) calls)
 
--- ---- beside the claims: how deep a cell's losses go
+-- ---- beside the claims: what was drained
 
--- d of cell i in the year after the current one, by its entry in the book
-abbrev pub d_in_book : List ℕ → List ℕ → ℕ → ℕ
-d_in_book l b i =
-    let e = entry b i in
-    cond (unconverted e.plan (year b + 1)) 0 (drained (row l (cell l i).stratum (age e.plan (year b + 1))) e.oxidised e.burned)
+-- the deepest drainage level of cell i in the years of the closings, or what was counted as lost before the list where no level was deeper
+unfoldable pub deepest_level_in : List ℕ → BroughtForward → History → ℕ → ℕ
+deepest_level_in l s [] i = s.oxidised i + s.burned i
+deepest_level_in l s (Lines x ∷ h) i = max (drainage_level_in (row l) (cell l i) (plan_in s h i) (suc (year_in s h))) (deepest_level_in l s h i)
+deepest_level_in l s (Replanned j y ∷ h) i = deepest_level_in l s h i
+deepest_level_in l s (Issued t ∷ h) i = deepest_level_in l s h i
+deepest_level_in l s (Nothing ∷ h) i = deepest_level_in l s h i
 
--- the deepest water level of cell i in the years of the closings, or what was counted as lost before the list (0) if no water was below it
-unfoldable pub deepest : List ℕ → BroughtForward → History → ℕ → ℕ
-deepest l s [] i = s.oxidised i + s.burned i
-deepest l s (Lines x ∷ h) i = max (level_in (row l) (cell l i) (plan_in s h i) (suc (year_in s h))) (deepest l s h i)
-deepest l s (Replanned j y ∷ h) i = deepest l s h i
-deepest l s (Issued t ∷ h) i = deepest l s h i
-deepest l s (Nothing ∷ h) i = deepest l s h i
+-- the mm lines x of cell i are those of the year rule, with d of the claims and with what the lines handed out before leave of its depth
+pub record LinesByD (l : List ℕ) (s : BroughtForward) (i : ℕ) (x : List ℕ) (before : History) : Type 0 where
+  pub burned : burned_line x i ≡
+      burned_by (guard l) (d_of l s before i) (row_of l s before i).burning ((cell l i).entered - (oxidised_in s before i + burned_in s before i))
+  pub oxidised : oxidised_line x i ≡
+      oxidised_by (d_of l s before i) (row_of l s before i).oxidation ((cell l i).entered - (oxidised_in s before i + burned_in s before i)) (burned_line x i)
 
--- of cell i: nothing was lost that no canal had drained; and d of the claims, by the lines handed out, is that by which the next closing works,
--- by the book
+-- of cell i: no more was lost than down to its deepest drainage level, or than before the list; and where the next closing is accepted and
+-- finds the cell active, its lines go by d of the claims
 pub record DrainedClaims (l : List ℕ) (s : BroughtForward) (state : State) (i : ℕ) : Type 0 where
-  pub within : oxidised_in s state.history i + burned_in s state.history i ≤ deepest l s state.history i
-  pub d_is : d_of l s state.history i ≡ d_in_book l state.book i
+  pub within : oxidised_in s state.history i + burned_in s state.history i ≤ deepest_level_in l s state.history i
+  pub lines : (x : List ℕ) → (close_effect l state.book x).answer.done ≡ true → inactive (head l) (cell l i) (entry state.book i) (year state.book + 1) ≡ false →
+      LinesByD l s i (close_effect l state.book x).output state.history
 
 -- for every listing and book that open accepts, and every list of calls on them, refused ones included; proofs/EveryList.antt proves it
 abbrev pub EveryDrained : Type 0
@@ -204,3 +209,8 @@ pub record IsBroughtForward (l b : List ℕ) (s : BroughtForward) : Type 0 where
 
 abbrev pub EveryListFrom : Type 0
 EveryListFrom = (l b : List ℕ) (s : BroughtForward) → (admitted l b).done ≡ true → IsBroughtForward l b s → (calls : List Call) → Claims l s (run l (record { book = b; history = [] }) calls)
+
+abbrev pub EveryDrainedFrom : Type 0
+EveryDrainedFrom =
+    (l b : List ℕ) (s : BroughtForward) → (admitted l b).done ≡ true → IsBroughtForward l b s → (calls : List Call) → (i : ℕ) → i < cells l →
+    DrainedClaims l s (run l (record { book = b; history = [] }) calls) i

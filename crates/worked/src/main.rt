@@ -498,6 +498,7 @@ fn main(rt: HostRuntime) {
     site(&rt);
     misplaced_site(&rt);
     char_left(&rt);
+    benchmark(&rt);
     blocks(&rt);
     block_sizes(&rt);
     block_lengths(&rt);

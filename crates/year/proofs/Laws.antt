@@ -14,7 +14,7 @@ use Rattle.fields.specs.Valid.{HeadValid, RowValid, CellValid}
 use Rattle.fields.specs.declared.Head.{Head}
 use Rattle.fields.specs.declared.Row.{Row}
 use Rattle.fields.specs.declared.Cell.{Cell}
-use Rattle.year.specs.Year.{unconverted, inactive, age, drained, level_in, remaining, burned_by, oxidised_by, burned_mm, mm_of, no_mm, year_mm, kg_of, loss_of, year_loss}
+use Rattle.year.specs.Year.{unconverted, inactive, age, drained, drainage_level_in, remaining, burned_by, oxidised_by, burned_mm, mm_of, no_mm, year_mm, kg_of, loss_of, year_loss}
 use Rattle.year.specs.Year.{burned_weight, emission_divisor, emission, EveryEmission, no_loss, most_line, most_emission, most_loss, after_loss}
 use Rattle.year.specs.Limits.{WithinLimits, SameFigures}
 use Rattle.year.specs.declared.Entry.{Entry}
@@ -220,6 +220,13 @@ module _ (h : Head) (rows : ℕ → ℕ → Row) (c : Cell) (e : Entry) (t : ℕ
   unfolding year_loss
   year_kg_lem = omega (arith, emission_grows h c e.oxidised e.burned (year_mm h rows c e t).oxidised (year_mm h rows c e t).burned)
 
+  -- an active cell's mm are those of its row, with d by what was lost before
+  pub mm_by_d : inactive h c e t ≡ false →
+      ((year_loss h rows c e t).burned ≡ burned_by h.guard (drained row e.oxidised e.burned) row.burning (remaining c e))
+      × ((year_loss h rows c e t).oxidised ≡ oxidised_by (drained row e.oxidised e.burned) row.oxidation (remaining c e) (year_loss h rows c e t).burned)
+  unfolding year_loss mm_of
+  mm_by_d q = rw (mm_active q) (refl, refl)
+
   -- a fire leaves the guard dry
   pub year_dry : 0 < (year_loss h rows c e t).burned → (unconverted e.plan t ≡ false) × (h.guard + (year_loss h rows c e t).burned ≤ drained row e.oxidised e.burned)
   unfolding year_loss
@@ -228,18 +235,18 @@ module _ (h : Head) (rows : ℕ → ℕ → Row) (c : Cell) (e : Entry) (t : ℕ
       (λ q z. absurd (omega arith))
       (λ q z. ((active h c e t q).0, let m = mm_least h c row e in omega arith))
 
-  -- no more is lost than down to the water, or than was lost before
-  mm_level : (e.oxidised + (year_mm h rows c e t).oxidised) + (e.burned + (year_mm h rows c e t).burned) ≤ max (level_in rows c e.plan t) (e.oxidised + e.burned)
+  -- no more is lost than down to the drainage level, or than was lost before
+  mm_level : (e.oxidised + (year_mm h rows c e t).oxidised) + (e.burned + (year_mm h rows c e t).burned) ≤ max (drainage_level_in rows c e.plan t) (e.oxidised + e.burned)
   mm_level =
-      mm_is (λ (m : LostMm). (e.oxidised + m.oxidised) + (e.burned + m.burned) ≤ max (level_in rows c e.plan t) (e.oxidised + e.burned)) (λ q. omega arith)
+      mm_is (λ (m : LostMm). (e.oxidised + m.oxidised) + (e.burned + m.burned) ≤ max (drainage_level_in rows c e.plan t) (e.oxidised + e.burned)) (λ q. omega arith)
       (λ q. rw (active h c e t q).0 (omega (arith, mm_least h c row e)))
 
-  pub year_level : (e.oxidised + (year_loss h rows c e t).oxidised) + (e.burned + (year_loss h rows c e t).burned) ≤ max (level_in rows c e.plan t) (e.oxidised + e.burned)
+  pub year_level : (e.oxidised + (year_loss h rows c e t).oxidised) + (e.burned + (year_loss h rows c e t).burned) ≤ max (drainage_level_in rows c e.plan t) (e.oxidised + e.burned)
   unfolding year_loss
   year_level = mm_level
 
-  -- nothing is lost in a year whose water is not below what was lost before
-  pub year_at_water : level_in rows c e.plan t ≤ e.oxidised + e.burned → year_loss h rows c e t ≡ no_loss
+  -- nothing is lost in a year whose drainage level is no deeper than what was lost before
+  pub year_at_water : drainage_level_in rows c e.plan t ≤ e.oxidised + e.burned → year_loss h rows c e t ≡ no_loss
   year_at_water p =
       loss_none (ap₂ (λ (o b : ℕ). record { oxidised = o; burned = b }) (omega (arith, mm_level)) (omega (arith, mm_level)))
 

@@ -1,4 +1,4 @@
--- Document 01, "A cell's year", with the emission of document 02: what a cell loses, by the listing's figures h and c, its table's row r, and its
+-- Document 01, "A cell's year", with the drainage and the emission of document 02: what a cell loses, by the listing's figures h and c, its table's row r, and its
 -- entry e in the book.
 use Rattle.std.specs.Prelude.{◌≡◌, ◌⊎◌, ℕ, ◌+◌, ◌-◌, ◌*◌, ◌/◌, ◌≤◌, min, Bool, true, false, cond, ◌||◌, ltb, eqb}
 use Rattle.fields.specs.Valid.{HeadValid}
@@ -21,13 +21,13 @@ inactive h c e t = e.withdrawn || (unconverted e.plan t || ltb c.entered h.thick
 abbrev pub age : ℕ → ℕ → ℕ
 age plan t = t - plan + 1
 
--- a drainage value counts from the surface at conversion: the mm from there down to the water are 10 times the drainage
-abbrev pub water_level : Row → ℕ
-water_level r = 10 * r.drainage
+-- a drainage value counts from the surface at conversion: so many mm below it the water lies
+abbrev pub drainage_level : Row → ℕ
+drainage_level r = 10 * r.drainage
 
 -- a cell's d in a year is 10 times the table value minus O + B at the start of that year, or 0 if that is negative
 abbrev pub drained : Row → ℕ → ℕ → ℕ
-drained r o b = water_level r - (o + b)
+drained r o b = drainage_level r - (o + b)
 
 -- R: remaining depth is not stored
 abbrev pub remaining : Cell → Entry → ℕ
@@ -57,10 +57,9 @@ no_mm = record { oxidised = 0; burned = 0 }
 unfoldable pub year_mm : Head → (ℕ → ℕ → Row) → Cell → Entry → ℕ → LostMm
 year_mm h rows c e t = cond (inactive h c e t) no_mm (mm_of h c (rows c.stratum (age e.plan t)) e)
 
--- the water level of a cell with plan year `plan` in year t, by the row of its own stratum and of its own age; 0 while it is not converted.
--- No more is ever lost than down to it, or than was lost before: proofs/Laws.antt
-abbrev pub level_in : (ℕ → ℕ → Row) → Cell → ℕ → ℕ → ℕ
-level_in rows c plan t = cond (unconverted plan t) 0 (water_level (rows c.stratum (age plan t)))
+-- the drainage level of a cell with plan year `plan` in year t, by the row of its own stratum and of its own age; 0 while it is not converted
+abbrev pub drainage_level_in : (ℕ → ℕ → Row) → Cell → ℕ → ℕ → ℕ
+drainage_level_in rows c plan t = cond (unconverted plan t) 0 (drainage_level (rows c.stratum (age plan t)))
 
 -- the weight of a burned mm: 1,100,000 − 11,000 × the char percentage + 400 × G × e; that of an oxidised mm is 1,100,000
 unfoldable pub burned_weight : Head → ℕ

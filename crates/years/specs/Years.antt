@@ -3,7 +3,7 @@
 -- proofs/Level.antt proves it.
 use Rattle.std.specs.Prelude.{◌≡◌, true, List, ℕ, zero, suc, ◌+◌, ◌≤◌, ◌<◌, max}
 use Rattle.listing.specs.Layout.{cells, horizon, row, cell}
-use Rattle.year.specs.Year.{level_in, after_loss}
+use Rattle.year.specs.Year.{drainage_level_in, after_loss}
 use Rattle.year.specs.declared.Entry.{Entry}
 use Rattle.year.specs.declared.Loss.{Loss}
 use Rattle.book.specs.Current.{new_book, fitted, Holds}
@@ -40,19 +40,19 @@ EveryYears = (l b : List ℕ) → (fitted l b).done ≡ true → (t : ℕ) → t
 abbrev pub lost_after : List ℕ → ℕ → ℕ → ℕ
 lost_after l t i = (entries_after l t i).oxidised + (entries_after l t i).burned
 
--- its water level in year t, and the deepest of the years 1 to t
-abbrev pub level : List ℕ → ℕ → ℕ → ℕ
-level l t i = level_in (row l) (cell l i) (cell l i).conversion t
+-- its drainage level in year t, and the deepest of the years 1 to t
+abbrev pub cell_level : List ℕ → ℕ → ℕ → ℕ
+cell_level l t i = drainage_level_in (row l) (cell l i) (cell l i).conversion t
 
-unfoldable pub deepest : List ℕ → ℕ → ℕ → ℕ
-deepest l zero i = 0
-deepest l (suc t) i = max (level l (t + 1) i) (deepest l t i)
+unfoldable pub deepest_level : List ℕ → ℕ → ℕ → ℕ
+deepest_level l zero i = 0
+deepest_level l (suc t) i = max (cell_level l (t + 1) i) (deepest_level l t i)
 
--- after t years a cell has lost nothing below the deepest water level so far; and as long as no water is below what it has lost, d is 0 and it
--- rests: after u years it has lost what it had after t
-pub record LevelKept (l : List ℕ) (t i : ℕ) : Type 0 where
-  pub within : lost_after l t i ≤ deepest l t i
-  pub rests : (u : ℕ) → t ≤ u → ((v : ℕ) → t < v → v ≤ u → level l v i ≤ lost_after l t i) → entries_after l u i ≡ entries_after l t i
+-- after t years a cell has lost no more than down to its deepest drainage level so far; and as long as the level of no later year is deeper than
+-- what it has lost by then, so that d is 0, it loses nothing: after u years its entry is that after t
+pub record WithinLevel (l : List ℕ) (t i : ℕ) : Type 0 where
+  pub within : lost_after l t i ≤ deepest_level l t i
+  pub unchanged : (u : ℕ) → t ≤ u → ((v : ℕ) → t < v → v ≤ u → cell_level l v i ≤ lost_after l t i) → entries_after l u i ≡ entries_after l t i
 
 abbrev pub EveryLevel : Type 0
-EveryLevel = (l : List ℕ) (t i : ℕ) → LevelKept l t i
+EveryLevel = (l : List ℕ) (t i : ℕ) → WithinLevel l t i
