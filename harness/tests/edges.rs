@@ -88,32 +88,207 @@ fn one_cell_of(site_word: Option<SiteWord>, row: Row, entered: u32) -> Vec<u32> 
     site.words()
 }
 
-/// d, o, b and R, with the entered depth, to burned and oxidised.
+fn row(drainage: u32, oxidation: u32, burning: u32) -> Row {
+    Row {
+        drainage,
+        oxidation,
+        burning,
+    }
+}
+
+/// The lines of the first year of one cell that has lost so much.
+fn lines_of_lent(ledger: &Ledger, listing: &[u32], [oxidised, burned]: [u32; 2]) -> [u32; 3] {
+    let (o, b) = (11 << 28 | oxidised, 12 << 28 | burned);
+    let mut book = [8 << 28, 9 << 28, 10 << 28 | 1, o, b];
+    let mut lines = [0; 3];
+    assert_eq!((ledger.close)(listing, &mut book, &mut lines), accepted(0));
+    lines
+}
+
+/// d, o, b and R, with the entered depth, to burned and oxidised. The table value is d and what was lost before.
 #[test]
 fn worked_years() {
     let rows = [
         (700, 45, 340, 2000, 2000, 300, 45),
         (400, 45, 340, 2000, 2000, 0, 45),
         (410, 45, 340, 2000, 2000, 10, 45),
+        // 80 cm less the 100 mm lost, and 250 cm less 1,800 mm.
+        (700, 45, 340, 200, 300, 200, 0),
         (700, 45, 340, 200, 2000, 200, 0),
         (30, 45, 0, 2000, 2000, 0, 30),
         (700, 45, 340, 299, 299, 0, 0),
         (700, 45, 340, 300, 300, 300, 0),
     ];
     for (dry, oxidation, burning, remaining, entered, burned, oxidised) in rows {
-        let row = Row {
-            drainage: dry / 10,
-            oxidation,
-            burning,
-        };
-        let listing = one_cell(row, entered);
+        let lost = entered - remaining;
+        let listing = one_cell(row((dry + lost) / 10, oxidation, burning), entered);
         both(|ledger| {
-            let lost = entered - remaining;
-            let mut book = [8 << 28, 9 << 28, 10 << 28 | 1, 11 << 28 | lost, 12 << 28];
-            let mut lines = [0; 3];
-            assert_eq!((ledger.close)(&listing, &mut book, &mut lines), accepted(0));
+            let lines = lines_of_lent(ledger, &listing, [lost, 0]);
             assert_eq!(lines[..2], [13 << 28 | oxidised, 14 << 28 | burned]);
         });
+    }
+}
+
+/// A table value of 45 cm is 450 mm from the surface at conversion: O + B before the year, to burned and oxidised, whether
+/// O, B or both were lost.
+#[test]
+fn drained_from_the_benchmark() {
+    let rows = [
+        (0, 50, 45),
+        // d is 401, 400 and 399.
+        (49, 1, 45),
+        (50, 0, 45),
+        (51, 0, 45),
+        // d is 45 and 44, then 1 and 0.
+        (405, 0, 45),
+        (406, 0, 44),
+        (449, 0, 1),
+        (450, 0, 0),
+        (451, 0, 0),
+        // 550 mm below the water, and above it by that much would burn 150.
+        (1_000, 0, 0),
+        (2_000, 0, 0),
+    ];
+    let listing = one_cell(row(45, 45, 340), 2_000);
+    for (lost, burned, oxidised) in rows {
+        let of_both = [lost / 3, lost - lost / 3];
+        for before in [[lost, 0], [0, lost], of_both] {
+            both(|ledger| {
+                let lines = lines_of_lent(ledger, &listing, before);
+                assert_eq!(lines[..2], [13 << 28 | oxidised, 14 << 28 | burned]);
+            });
+        }
+    }
+}
+
+/// One cell of 2,000 mm with a row for each year, of 10,000 m² and a density of 500, G 25 and e 12: K is 5,000,000, and the
+/// kg to date are (1,100,000 × O + 1,220,000 × B) / 600, rounded down.
+fn site_of_years(site_word: Option<SiteWord>, conversion: u32, rows: &[Row]) -> Site {
+    let cell = Cell {
+        stratum: 0,
+        conversion,
+        entered: 2_000,
+        area: 10_000,
+        density: 500,
+    };
+    Site {
+        horizon: rows.len() as u32,
+        char: 0,
+        buffer: 20,
+        warming: 25,
+        methane: 12,
+        site_word,
+        tables: vec![rows.to_vec()],
+        cells: vec![cell],
+        terms: vec![],
+    }
+}
+
+/// The oxidised and burned mm and the kg of each year, of one cell from an open, with a replan after so many years; the
+/// forecast has the same kg where there is none.
+fn closes_as(site: &Site, replan: Option<(usize, u32)>, years: &[[u32; LINE_WORDS]]) {
+    let listing = site.words();
+    both(|ledger| {
+        let (mut book, mut lines) = ([0; 5], [0; LINE_WORDS]);
+        assert_eq!((ledger.open)(&listing, &mut book), accepted(0));
+        for (closed, [oxidised, burned, kg]) in years.iter().enumerate() {
+            if let Some((_, year)) = replan.filter(|(after, _)| *after == closed) {
+                assert_eq!((ledger.replan)(&listing, &mut book, 0, year), accepted(0));
+            }
+            assert_eq!((ledger.close)(&listing, &mut book, &mut lines), accepted(0));
+            let expected = [13 << 28 | oxidised, 14 << 28 | burned, 15 << 28 | kg];
+            assert_eq!(lines, expected, "year {}", closed + 1);
+        }
+        if replan.is_none() {
+            let mut output = vec![0; years.len()];
+            let answer = (ledger.forecast)(&listing, &mut book, &mut output);
+            let kilograms: Vec<u64> = years.iter().map(|line| u64::from(line[2])).collect();
+            assert_eq!(output, kilograms);
+            assert_eq!(answer, total(kilograms.iter().sum()));
+        }
+    });
+}
+
+/// Rows of canals that are deepened as the land sinks.
+fn deepened() -> [Row; 4] {
+    [
+        row(45, 45, 340),
+        row(50, 45, 340),
+        row(60, 45, 20),
+        row(65, 45, 340),
+    ]
+}
+
+/// What they take: d is 450, 500 − 95, 600 − 145 and 650 − 210, and a fire may burn d − 400. O and B to date are 45 and 50,
+/// 90 and 55, 135 and 75, 180 and 115; the kg to date 184,166.7, 276,833.3, 400,000 and 563,833.3.
+const DEEPENED: [[u32; LINE_WORDS]; 4] = [
+    [45, 50, 184_166],
+    [45, 5, 92_667],
+    [45, 20, 123_167],
+    [45, 40, 163_833],
+];
+
+#[test]
+fn canals_deepened() {
+    closes_as(&site_of_years(None, 1, &deepened()), None, &DEEPENED);
+}
+
+/// Ages and d go by the cell's own plan year: the listing's, or a later one.
+#[test]
+fn canals_deepened_of_a_later_cell() {
+    let [first, second, third, _] = DEEPENED;
+    let nothing = [0; LINE_WORDS];
+    let site = site_of_years(None, 2, &deepened());
+    closes_as(&site, None, &[nothing, first, second, third]);
+    closes_as(&site, Some((1, 3)), &[nothing, nothing, first, second]);
+    closes_as(&site, Some((0, 1)), &DEEPENED);
+    closes_as(&site, Some((1, 0)), &[nothing; 4]);
+}
+
+/// The canals silt up, and the surface rests below the water until they are deepened: with 90 mm lost d is 0 by 80 cm less
+/// than that and by just that much, then 10; with 100 lost 400, with 140 lost 460. O and B to date are 40 and 50, then 50
+/// and 50, 90 and 50, 130 and 110; the kg to date 175,000, 193,333.3, 266,666.7 and 462,000.
+#[test]
+fn canals_silted_and_deepened() {
+    let rows = [45, 8, 9, 10, 50, 60].map(|drainage| row(drainage, 40, 340));
+    let years = [
+        [40, 50, 175_000],
+        [0, 0, 0],
+        [0, 0, 0],
+        [10, 0, 18_333],
+        [40, 0, 73_333],
+        [40, 60, 195_334],
+    ];
+    closes_as(&site_of_years(None, 1, &rows), None, &years);
+}
+
+/// With a guard of 100 d is 450, 450 − 385 = 65, 20 and 0; with none the second fire burns all 65. A guard of 355 leaves
+/// 95 to the first fire and nothing to later ones; one of 354 leaves 96, and d is then 309.
+#[test]
+fn guards_from_the_benchmark() {
+    // O and B to date are 45 and 340, 90 and 340, 110 and 340; with a guard of 0 45 and 340, 45 and 405; with a guard of 355
+    // 45 and 95, then 45 mm a year.
+    let rows = [row(45, 45, 340); 4];
+    let first = [45, 340, 773_833];
+    let years = [
+        (100, [first, [45, 0, 82_500], [20, 0, 36_667], [0, 0, 0]]),
+        (0, [first, [0, 65, 132_167], [0, 0, 0], [0, 0, 0]]),
+        (
+            355,
+            [
+                [45, 95, 275_666],
+                [45, 0, 82_500],
+                [45, 0, 82_500],
+                [45, 0, 82_500],
+            ],
+        ),
+    ];
+    for (guard, years) in years {
+        let site_word = Some(SiteWord {
+            guard,
+            thickness: 300,
+        });
+        closes_as(&site_of_years(site_word, 1, &rows), None, &years);
     }
 }
 
@@ -1021,15 +1196,17 @@ fn forecast_in_another_order() {
     });
 }
 
-/// 256 cells of 20,000 mm that all burn with the greatest weight: 816,000,000 kg each, 208,896,000,000 in all. A year
-/// burns 1,023 mm, the 20th the 563 that are left, and a mm of all cells emits 256 × 40,800 kg.
+/// 256 cells of 20,000 mm that burn down to the deepest water with the greatest weight, for a guard of 0 leaves nothing dry:
+/// 2,550 mm and 104,040,000 kg each, 26,634,240,000 in all. A year burns 1,023 mm, the third the 504 above the water, and a
+/// mm of all cells emits 256 × 40,800 kg.
 #[test]
 fn greatest_total() {
-    let row = Row {
-        drainage: 255,
-        oxidation: 0,
-        burning: 1_023,
+    let no_guard = SiteWord {
+        guard: 0,
+        thickness: 300,
     };
+    let mut site = site_of_years(Some(no_guard), 1, &[row(255, 0, 1_023); 4]);
+    (site.buffer, site.warming, site.methane) = (0, 100, 100);
     let cell = Cell {
         stratum: 0,
         conversion: 1,
@@ -1037,24 +1214,59 @@ fn greatest_total() {
         area: 10_000,
         density: 2_400,
     };
-    let site = Site {
-        horizon: 21,
-        char: 0,
-        buffer: 0,
-        warming: 100,
-        methane: 100,
-        site_word: None,
-        tables: vec![vec![row; 21]],
-        cells: vec![cell; 256],
-        terms: vec![],
-    };
+    site.cells = vec![cell; 256];
     both(|ledger| {
-        let mut output = [7; 22];
+        let mut output = [7; 5];
         let answer = (ledger.forecast)(&site.words(), &mut [0; 770], &mut output);
-        assert_eq!(answer, total(208_896_000_000));
-        assert_eq!(output[..19], [1_023 * 256 * 40_800; 19]);
-        assert_eq!(output[19..], [563 * 256 * 40_800, 0, 7]);
+        assert_eq!(answer, total(26_634_240_000));
+        assert_eq!(output[..2], [1_023 * 256 * 40_800; 2]);
+        assert_eq!(output[2..], [504 * 256 * 40_800, 0, 7]);
     });
+}
+
+/// The most that a book of lent figures holds: 256 cells that have burned all of their 20,000 mm, 816,000,000 kg each, are
+/// 208,896,000 t, and 700 terms of 65,535 t are 45,874,500 more.
+#[test]
+fn greatest_balance_of_a_lent_book() {
+    let mut site = generate::largest();
+    (site.char, site.buffer, site.warming, site.methane) = (0, 0, 100, 100);
+    for cell in &mut site.cells {
+        (cell.entered, cell.area, cell.density) = (20_000, 10_000, 2_400);
+    }
+    site.terms.iter_mut().for_each(|term| term.tonnes = 65_535);
+    let listing = site.words();
+    let cell = [10 << 28 | 1, 11 << 28, 12 << 28 | 20_000];
+    let mut book = vec![8 << 28 | 100, 9 << 28];
+    book.extend(cell.repeat(256));
+    both(|ledger| {
+        let account = (ledger.statement)(&listing, &book, 255);
+        assert_eq!((account.number, account.kg), (0, 816_000_000));
+        let answer = (ledger.issue)(&listing, &mut book.clone());
+        assert_eq!(answer, accepted(254_770_500));
+    });
+}
+
+/// The claim on fires goes by d of the fire's own year: after 95 mm lost, 450 and 500 mm of the table leave a dry margin of
+/// 355 and 405. A fire counted from the year's surface would pass at up to 50 and 100 mm.
+#[test]
+fn claim_on_later_fires_that_fails() {
+    let rows = [
+        // Table value of year 2, burned mm of year 2, and whether the guard of 400 is dry after it.
+        (45, 1, false),
+        (45, 50, false),
+        (50, 5, true),
+        (50, 6, false),
+        (50, 100, false),
+    ];
+    for (drainage, burned, holds) in rows {
+        let rows = [row(45, 45, 340), row(drainage, 45, 340)];
+        let listing = site_of_years(None, 1, &rows).words();
+        let mut history = History::opened(&listing);
+        let fires = history.closed(&[13 << 28 | 45, 14 << 28 | 50, 15 << 28 | 184_166]);
+        assert!(history.guard_holds(&fires[0]));
+        let fires = history.closed(&[13 << 28, 14 << 28 | burned, 15 << 28]);
+        assert_eq!(history.guard_holds(&fires[0]), holds);
+    }
 }
 
 /// One mm, one kg or one tonne too many returned breaks a claim on lists of calls: none is true of itself.
@@ -1103,36 +1315,35 @@ fn claims_fail_of(listing: &[u32], tonnes: u32) {
     }
 }
 
-/// A K of 1 emits only by its sum: rounding each year by itself would give 0 for ever.
+/// Cells of 1 m² emit only by their sums: rounding each year by itself would give 0 for ever. Density, o and b of each year,
+/// to the years whose line is 1 kg.
 #[test]
 fn small_cells_emit() {
-    let row = Row {
-        drainage: 70,
-        oxidation: 45,
-        burning: 0,
-    };
-    let site = Site {
-        horizon: 100,
-        char: 0,
-        buffer: 0,
-        warming: 1,
-        methane: 0,
-        site_word: None,
-        tables: vec![vec![row; 100]],
-        cells: vec![Cell {
+    let cells: [(u32, u32, u32, &[usize]); 2] = [
+        // 2 × 1,100,000 × O is above 3,000,000,000 once O is 1,364, after 31 years; 255 cm let 2,550 mm oxidise.
+        (2, 45, 0, &[31]),
+        // 5,100,000 × B is above it, twice and three times it once B is 589, 1,177 and 1,765; 2,150 mm may burn.
+        (1, 0, 45, &[14, 27, 40]),
+    ];
+    for (density, oxidation, burning, emitting) in cells {
+        let mut site = site_of_years(None, 1, &[row(255, oxidation, burning); 100]);
+        (site.warming, site.methane) = (100, 100);
+        site.cells[0] = Cell {
             stratum: 0,
             conversion: 1,
             entered: 20_000,
             area: 1,
-            density: 1,
-        }],
-        terms: vec![],
-    };
-    both(|ledger| {
-        let mut output = [0; 100];
-        let answer = (ledger.forecast)(&site.words(), &mut [0; 5], &mut output);
-        // 1,100,000 × 4,500 / 3,000,000,000 rounded down.
-        assert_eq!(answer, total(1));
-        assert_eq!(output.iter().sum::<u64>(), 1);
-    });
+            density,
+        };
+        both(|ledger| {
+            let mut output = [0; 100];
+            let answer = (ledger.forecast)(&site.words(), &mut [0; 5], &mut output);
+            assert_eq!(answer, total(emitting.len() as u64));
+            let is_emitting = |year: usize| u64::from(emitting.contains(&(year + 1)));
+            assert_eq!(
+                output.to_vec(),
+                (0..100).map(is_emitting).collect::<Vec<_>>()
+            );
+        });
+    }
 }

@@ -25,15 +25,15 @@ int main(void) {
     peat_total forecast = peat_forecast(listing, 6, book, 5, output, 2), short_output = peat_forecast(listing, 6, book, 5, output, 1);
     printf("forecast %u %zu %llu: %llu %llu\n", forecast.number, forecast.place, (unsigned long long)forecast.total, (unsigned long long)output[0], (unsigned long long)output[1]);
     printf("forecast %u %zu %llu\n", short_output.number, short_output.place, (unsigned long long)short_output.total);
-    /* Six cells of 10,000 m2 and 240 kg per m3, 20,000 mm deep, that burn down at the greatest factor, G and e 100. */
-    uint32_t deep[2 + 20 + 2 * 6] = {0x10060114, 0x20006464}, deep_book[2 + 3 * 6];
-    uint64_t years[20];
-    for (int i = 0; i < 20; i++) deep[2 + i] = 0x3FF003FF;
-    for (int i = 0; i < 6; i++) {
-        deep[22 + 2 * i] = 0x40014E20;
-        deep[23 + 2 * i] = 0x52710960;
+    /* Fifty cells of 10,000 m2 and 240 kg per m3, that burn 2,150 mm each at the greatest factor, G and e 100. */
+    uint32_t deep[2 + 3 + 2 * 50] = {0x10320103, 0x20006464}, deep_book[2 + 3 * 50];
+    uint64_t years[3];
+    for (int i = 0; i < 3; i++) deep[2 + i] = 0x3FF003FF;
+    for (int i = 0; i < 50; i++) {
+        deep[5 + 2 * i] = 0x40014E20;
+        deep[6 + 2 * i] = 0x52710960;
     }
-    peat_total large = peat_forecast(deep, 34, deep_book, 20, years, 20);
+    peat_total large = peat_forecast(deep, 105, deep_book, 152, years, 3);
     printf("forecast %u %zu %llu\n", large.number, large.place, (unsigned long long)large.total);
     peat_answer core = peat_core(0.7f), levels = peat_levels(12.5f, 10.25f), missing = peat_missing();
     printf("depths %u %u, missing %u\n", core.value, levels.value, missing.number);

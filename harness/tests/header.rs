@@ -3,8 +3,8 @@ use std::path::Path;
 use std::process::Command;
 
 /// The figures are document 01's, "Worked on paper"; 5 words are needed for the book. 775000 are the
-/// kg of the two years; the last forecast is of 6 cells, each with the greatest emission, 816,000,000 kg. Of logged
-/// blocks the average is 200 / 2, and 10 × 50 + 30 × 150 is more than 40 × 100. Dips are paired of days 4 and 7, both
+/// kg of the two years; the last forecast is of 50 cells that burn 2,550 mm less the guard of 400, each of 40,800 kg, and
+/// more than 32 bits hold. Of logged blocks the average is 200 / 2, and 10 × 50 + 30 × 150 is more than 40 × 100. Dips are paired of days 4 and 7, both
 /// 500 mm apart, with tolerances of 250 + 250 and of 250 + 125 mm; day 3 at place 3 is not above day 5.
 const EXPECTED: &str = "\
 open 6 4 0
@@ -13,7 +13,7 @@ replan 12, withdraw 0
 statement 0 0: 2000 1655 45 300 692500 1 1
 forecast 0 0 775000: 692500 82500
 forecast 15 1 0
-forecast 0 0 4896000000
+forecast 0 0 4386000000
 depths 699 2250, missing 18
 discount 8499
 logged 0 0: 100 1, without year 0 21
