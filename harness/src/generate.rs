@@ -1,5 +1,6 @@
 //! Listings, books, calls, floats, pools, logged blocks and recordings by a small generator (splitmix64), good and
 //! damaged.
+use crate::loss::{CellYear, Rule};
 use crate::met::PAST;
 use crate::site::{part, Cell, Row, Site, SiteWord, YearlyTerm};
 use crate::{Reading, Recording};
@@ -79,17 +80,23 @@ pub fn any_site(random: &mut Random) -> Site {
     site(random, size)
 }
 
-/// Nearly the most cells, all of the most peat and carbon: its balance comes near the greatest, 254,770,500 tonnes.
+/// Nearly the most cells, all of the most peat and carbon, and at times the greatest terms. From an open no cell loses more
+/// than 2,550 mm, and no balance is above 72,508,740 tonnes; that of a lent book may come near 254,770,500.
 fn richest(random: &mut Random) -> Site {
     let size = Size {
         cells: random.between(200, 256),
         strata: random.between(1, 16),
-        horizon: random.between(10, 30),
+        horizon: random.between(10, 60),
         terms: random.between(1, 100),
     };
+    let terms = match random.between(0, 1) {
+        0 => greatest_terms(size.horizon),
+        _ => terms(random, size),
+    };
+    let buffer = figure(random, 0, 100);
     let row = Row {
         drainage: 255,
-        oxidation: 1_023,
+        oxidation: random.pick(&[0, 1_023]),
         burning: 1_023,
     };
     let cell = |random: &mut Random| Cell {
@@ -103,13 +110,19 @@ fn richest(random: &mut Random) -> Site {
         horizon: size.horizon,
         tables: vec![vec![row; size.horizon as usize]; size.strata as usize],
         char: figure(random, 0, 31),
-        buffer: figure(random, 0, 100),
+        buffer: random.pick(&[0, buffer]),
         warming: 100,
         methane: 100,
         site_word: site_word(random),
         cells: (0..size.cells).map(|_| cell(random)).collect(),
-        terms: terms(random, size),
+        terms,
     }
+}
+
+fn greatest_terms(horizon: u32) -> Vec<YearlyTerm> {
+    let tonnes = 65_535;
+    let of_year = |year| TERMS.map(|term| YearlyTerm { year, term, tonnes });
+    (1..=horizon).flat_map(of_year).collect()
 }
 
 /// A good site of this size; a cell's stratum is drawn, so cells are not sorted by stratum.
@@ -127,12 +140,9 @@ fn site(random: &mut Random, size: Size) -> Site {
     };
     let wide = random.once_in(3);
     let (guard, thickness) = (site.guard(), site.thickness());
-    let mut table = || {
-        (0..size.horizon)
-            .map(|_| row(random, wide, guard))
-            .collect()
-    };
-    site.tables = (0..size.strata).map(|_| table()).collect();
+    site.tables = (0..size.strata)
+        .map(|_| table(random, size.horizon, wide, guard))
+        .collect();
     site.cells = (0..size.cells)
         .map(|_| cell(random, size, thickness))
         .collect();
@@ -157,6 +167,42 @@ fn figure(random: &mut Random, least: u32, most: u32) -> u32 {
         0 => least,
         1 => most,
         _ => random.between(least, most),
+    }
+}
+
+/// A row for each age, drawn by itself, or with canals that follow the land as it sinks.
+fn table(random: &mut Random, horizon: u32, wide: bool, guard: u32) -> Vec<Row> {
+    let mut rows: Vec<Row> = (0..horizon).map(|_| row(random, wide, guard)).collect();
+    if !random.once_in(3) {
+        deepen(random, guard, &mut rows);
+    }
+    rows
+}
+
+/// Follows a cell with much peat, and draws each age's water around where it loses nothing, burns nothing or loses what
+/// the row asks. Canals that silt up leave the surface below the water until they are deepened again.
+fn deepen(random: &mut Random, guard: u32, rows: &mut [Row]) {
+    let silting = random.pick(&[3, 6, 100]);
+    let (mut oxidised, mut burned) = (0, 0);
+    for row in rows {
+        let lost = oxidised + burned;
+        let asked = random.pick(&[0, row.oxidation, guard, guard + row.burning]);
+        let around = (lost + asked + random.between(0, 20)).saturating_sub(5);
+        row.drainage = if random.once_in(silting) {
+            random.between(0, lost / 10)
+        } else {
+            (around / 10).min(255)
+        };
+        let cell = CellYear {
+            row: *row,
+            guard,
+            entered: 20_000,
+            oxidised,
+            burned,
+        };
+        let [more_oxidised, more_burned] = cell.losses(Rule::Benchmark);
+        oxidised += more_oxidised;
+        burned += more_burned;
     }
 }
 
@@ -277,15 +323,15 @@ pub fn book(random: &mut Random, site: &Site) -> Vec<u32> {
     let issued = random.pick(&[0, 1_000, 1_000_000, 0x0FFF_FFFF]);
     let issued = random.between(0, issued);
     let mut book = vec![8 << 28 | current, 9 << 28 | issued];
+    let all_burned = random.once_in(5);
     for cell in &site.cells {
-        let most = if cell.entered < site.thickness() {
-            0
-        } else {
-            cell.entered
-        };
-        let lost = figure(random, 0, most);
-        let burned = random.between(0, lost);
         let plan_year = random.between(0, site.horizon);
+        let (lost, burned) = if all_burned {
+            (most_lost(site, cell), most_lost(site, cell))
+        } else {
+            let lost = lost_before(random, site, cell, plan_year, current + 1);
+            (lost, figure(random, 0, lost))
+        };
         let withdrawn = u32::from(random.once_in(5));
         book.extend([
             10 << 28 | withdrawn << 8 | plan_year,
@@ -296,6 +342,35 @@ pub fn book(random: &mut Random, site: &Site) -> Vec<u32> {
     let beyond = random.below(4);
     book.extend(random.words(beyond));
     book
+}
+
+/// O + B of a cell in an accepted book is at most this.
+fn most_lost(site: &Site, cell: &Cell) -> u32 {
+    if cell.entered < site.thickness() {
+        0
+    } else {
+        cell.entered
+    }
+}
+
+/// Any mm, or so many that d of the year to be closed is about 0, or about the guard.
+fn lost_before(random: &mut Random, site: &Site, cell: &Cell, plan_year: u32, year: u32) -> u32 {
+    let most = most_lost(site, cell);
+    let table = &site.tables[cell.stratum as usize];
+    let row = match plan_year {
+        0 => None,
+        _ => year
+            .checked_sub(plan_year)
+            .and_then(|age| table.get(age as usize)),
+    };
+    match row {
+        Some(row) if random.once_in(2) => {
+            let level = 10 * row.drainage;
+            let mark = random.pick(&[level, level.saturating_sub(site.guard())]);
+            (mark + random.between(0, 2)).saturating_sub(1).min(most)
+        }
+        _ => figure(random, 0, most),
+    }
 }
 
 /// A good site's listing with one figure just past an end of its range, and which of `met::PAST` it is.

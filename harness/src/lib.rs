@@ -1,6 +1,7 @@
 //! The proved calls over their C interface, the reference to compare them with, and what the tests need.
 pub mod baseline;
 pub mod generate;
+pub mod loss;
 pub mod met;
 pub mod proved;
 pub mod reference;

@@ -127,6 +127,9 @@ const GROUPS: &[(&str, &[&str])] = &[
         "fire",
         &[
             "left exactly the guard",
+            "left exactly the guard, after earlier losses",
+            "left exactly the guard, more by 10 x the table value",
+            "that would be deeper by 10 x the table value",
             "down to the water, with a guard of 0",
             "with a guard above 400",
             "of a cell behind a withdrawn neighbour of another stratum",
@@ -146,8 +149,14 @@ const GROUPS: &[(&str, &[&str])] = &[
             "d is the guard",
             "d above the guard",
             "of 0 mm, with a least thickness of 0",
+            "losing again after a year at d 0",
+            "sunk to its deepest water so far",
         ],
     ),
+    (OPENED[0], D_AFTER_LOSSES),
+    (OPENED[1], OTHERWISE),
+    (LENT[0], D_AFTER_LOSSES),
+    (LENT[1], OTHERWISE),
     ("burned by", &["b alone", "R alone", "d - guard alone"]),
     (
         "oxidised by",
@@ -160,9 +169,13 @@ const GROUPS: &[(&str, &[&str])] = &[
         &[
             "below 0",
             "0 to 1,000,000 t",
-            "to 100,000,000 t",
-            "to 254,770,500 t",
+            "to 30,000,000 t",
+            "to 72,508,740 t",
         ],
+    ),
+    (
+        "balance paid, lent book",
+        &["to 72,508,740 t", "to 254,770,500 t"],
     ),
     (
         "balance after a payment",
@@ -354,6 +367,36 @@ const GROUPS: &[(&str, &[&str])] = &[
     ),
 ];
 
+/// The groups of a cell that may lose in a closing, where its book was opened and where it was lent: its d, and the wrong
+/// rules by which its lines would be otherwise.
+pub const OPENED: [&str; 2] = ["d after losses, opened", "otherwise with, opened"];
+pub const LENT: [&str; 2] = ["d after losses, lent", "otherwise with, lent"];
+
+/// d of a cell whose O + B is above 0 at the start of the year.
+const D_AFTER_LOSSES: &[&str] = &[
+    "O alone above 0",
+    "B alone above 0",
+    "both above 0",
+    "above 0",
+    "0, as O + B is 10 x the table value",
+    "0, as O + B is above 10 x the table value",
+    "1 mm",
+    "1 mm below the guard",
+    "the guard",
+    "1 mm above the guard",
+    "limits oxidation after a fire",
+];
+
+/// As `loss::WRONG_RULES` has them.
+const OTHERWISE: &[&str] = &[
+    "10 x the table value",
+    "O alone taken off",
+    "B alone taken off",
+    "the absolute difference",
+    "the wrapped difference",
+    "the year's fire taken off too",
+];
+
 /// A reading of two recordings, by the recording that it is in.
 const READINGS: &[&str] = &[
     "a depth of the first",
@@ -457,6 +500,13 @@ impl Met {
         let found = rows.iter().position(|name| *name == row);
         let row = found.unwrap_or_else(|| panic!("{name}: {row} is not in the table"));
         self.0[group][row] += 1;
+    }
+
+    /// Counts a row where its class is met.
+    pub fn count_if(&mut self, is: bool, group: &str, row: &str) {
+        if is {
+            self.count(group, row);
+        }
     }
 
     /// Counts what a call answered: accepted, or refused by a number.

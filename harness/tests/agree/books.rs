@@ -1,8 +1,10 @@
 //! Books that no list need have led to, and forecasts.
 use crate::lent::{agree, lend, open, Lent};
+use crate::rule::{count_d, inactive, row_of_year};
 use harness::generate::{self, Call, Random};
-use harness::met::Met;
-use harness::site::{Site, LINE_WORDS};
+use harness::loss::CellYear;
+use harness::met::{Met, LENT};
+use harness::site::{Site, BOOK_CELL_WORDS, BOOK_HEAD, LINE_WORDS};
 use harness::PROVED;
 
 /// Every call on any accepted book.
@@ -16,9 +18,49 @@ pub fn any_book(seed: u64, met: &mut Met) {
         for _ in 0..4 {
             lent.book.clone_from(&book);
             let call = generate::call(random, &site, current);
-            assert_ne!(agree(met, call, &mut lent).number, 8);
+            let answer = agree(met, call, &mut lent);
+            assert_ne!(answer.number, 8);
+            match call {
+                Call::Close { .. } if answer.number == 0 => {
+                    count_closing(met, &site, &book, &lent.lines);
+                }
+                Call::Issue if answer.value > 0 => count_payment(met, &lent.book),
+                _ => {}
+            }
         }
     }
+}
+
+/// The cells that may lose in a closing, by the book before it and the lines after it.
+fn count_closing(met: &mut Met, site: &Site, book: &[u32], lines: &[u32]) {
+    let year = (book[0] & 0xFF) + 1;
+    let entries = book[BOOK_HEAD..].chunks_exact(BOOK_CELL_WORDS);
+    let entries = entries.zip(lines.chunks_exact(LINE_WORDS));
+    for (i, (cell, (entry, line))) in site.cells.iter().zip(entries).enumerate() {
+        let (withdrawn, plan) = (entry[0] & 0x100 != 0, entry[0] & 0xFF);
+        if inactive(site, i, withdrawn, plan, year).is_some() {
+            continue;
+        }
+        let [oxidised, burned, more_oxidised, more_burned] =
+            [entry[1], entry[2], line[0], line[1]].map(|word| word & 0x0FFF_FFFF);
+        let cell_year = CellYear {
+            row: row_of_year(site, i, plan, year).expect("a converted cell"),
+            guard: site.guard(),
+            entered: cell.entered,
+            oxidised,
+            burned,
+        };
+        count_d(met, LENT, &cell_year, [more_oxidised, more_burned]);
+    }
+}
+
+/// After an issue that paid, the tonnes issued are the balance. A lent book may have lost all of its peat.
+fn count_payment(met: &mut Met, book: &[u32]) {
+    let row = match book[1] & 0x0FFF_FFFF {
+        0..=72_508_740 => "to 72,508,740 t",
+        _ => "to 254,770,500 t",
+    };
+    met.count("balance paid, lent book", row);
 }
 
 /// The kg to date of all cells, as statements have them.

@@ -1,29 +1,52 @@
 //! Lists of calls from an accepted open, with strays between them, and document 01's four claims.
 use crate::lent::{agree, lend, open, reference_number, Lent};
+use crate::rule::{count_d, inactive, row_of_year};
 use harness::generate::{self, Call, Random};
-use harness::met::Met;
-use harness::reference::History;
-use harness::site::{Site, LINE_WORDS};
+use harness::loss::{CellYear, Rule};
+use harness::met::{Met, OPENED};
+use harness::reference::{Fire, History};
+use harness::site::{Cell, Site, LINE_WORDS};
 use harness::{Account, PROVED};
 
-/// What a list has returned, with what only the table asks: marks, plan years, mm lost, and the balances at its issues.
+/// No balance from an open is above this: 256 cells that burn 2,550 mm, 104,040 tonnes each, and 700 terms of 65,535.
+const HIGHEST_BALANCE: i128 = 256 * 104_040 + 700 * 65_535;
+
+/// What a list has returned, with what only the table asks: of its cells, and the balances at its issues.
 struct ListTally<'a> {
     site: &'a Site,
     history: History,
-    withdrawn: Vec<bool>,
-    plans: Vec<u32>,
-    lost: Vec<u32>,
+    cells: Vec<CellTally>,
     balances: Vec<i128>,
+}
+
+/// A cell's mark and plan year, the sums of its lines, the deepest water of the years in which it was converted, and
+/// whether a year found d at 0 since it lost last; in mm.
+#[derive(Clone, Default)]
+struct CellTally {
+    withdrawn: bool,
+    plan: u32,
+    oxidised: u32,
+    burned: u32,
+    deepest: u32,
+    rested: bool,
+}
+
+impl CellTally {
+    fn lost(&self) -> u32 {
+        self.oxidised + self.burned
+    }
 }
 
 impl<'a> ListTally<'a> {
     fn opened(site: &'a Site, listing: &[u32]) -> Self {
+        let planned = |cell: &Cell| CellTally {
+            plan: cell.conversion,
+            ..CellTally::default()
+        };
         ListTally {
             site,
             history: History::opened(listing),
-            withdrawn: vec![false; site.cells.len()],
-            plans: site.cells.iter().map(|cell| cell.conversion).collect(),
-            lost: vec![0; site.cells.len()],
+            cells: site.cells.iter().map(planned).collect(),
             balances: Vec::new(),
         }
     }
@@ -34,10 +57,10 @@ impl<'a> ListTally<'a> {
             Call::Close { lines: length } => self.closed(met, &lines[..length]),
             Call::Replan { cell, year } => {
                 self.history.replanned(cell, year);
-                self.plans[cell] = year;
+                self.cells[cell].plan = year;
                 met.count("replan to", if year == 0 { "0" } else { "a year" });
             }
-            Call::Withdraw { cell } => self.withdrawn[cell] = true,
+            Call::Withdraw { cell } => self.cells[cell].withdrawn = true,
             Call::Issue => self.issued(met, value),
             _ => {}
         }
@@ -45,11 +68,12 @@ impl<'a> ListTally<'a> {
 
     fn issued(&mut self, met: &mut Met, tonnes: u32) {
         let balance = self.history.issued(tonnes);
+        assert!(balance <= HIGHEST_BALANCE, "a balance of {balance} t");
         let row = match balance {
             ..=-1 => "below 0",
             0..=1_000_000 => "0 to 1,000,000 t",
-            1_000_001..=100_000_000 => "to 100,000,000 t",
-            _ => "to 254,770,500 t",
+            1_000_001..=30_000_000 => "to 30,000,000 t",
+            _ => "to 72,508,740 t",
         };
         met.count("balance at an issue", row);
         match self.site.buffer {
@@ -60,81 +84,116 @@ impl<'a> ListTally<'a> {
         self.balances.push(balance);
     }
 
-    /// The claim on fires, asked at each of them.
+    /// The claim on fires, asked at each of them, and the law on the deepest water.
     fn closed(&mut self, met: &mut Met, lines: &[u32]) {
         for fire in self.history.closed(lines) {
             let holds = self.history.guard_holds(&fire);
             assert!(holds, "a fire of cell {}", fire.cell);
             met.count("claim asked", "dry after a fire");
-            if fire.stayed_dry == i128::from(self.site.guard()) {
-                met.count("fire", "left exactly the guard");
-            }
-            self.count_fire(met, fire.cell, fire.stayed_dry);
-            let stratum = |cell: usize| self.site.cells[cell].stratum;
-            let before = fire.cell.checked_sub(1);
-            if before
-                .is_some_and(|cell| self.withdrawn[cell] && stratum(cell) != stratum(fire.cell))
-            {
-                let row = "of a cell behind a withdrawn neighbour of another stratum";
-                met.count("fire", row);
-            }
+            self.count_fire(met, &fire);
+            self.count_neighbour(met, fire.cell);
         }
-        for (cell, line) in (0..self.lost.len()).zip(lines.chunks_exact(LINE_WORDS)) {
-            let (oxidised, burned) = (line[0] & 0x0FFF_FFFF, line[1] & 0x0FFF_FFFF);
-            self.count_cell(met, cell, burned);
-            self.lost[cell] += oxidised + burned;
+        for (i, line) in (0..self.cells.len()).zip(lines.chunks_exact(LINE_WORDS)) {
+            let [oxidised, burned] = [line[0], line[1]].map(|word| word & 0x0FFF_FFFF);
+            self.count_cell(met, i, [oxidised, burned]);
+            let plan = self.cells[i].plan;
+            let row = row_of_year(self.site, i, plan, self.history.closings());
+            let cell = &mut self.cells[i];
+            cell.oxidised += oxidised;
+            cell.burned += burned;
+            cell.deepest = cell.deepest.max(row.map_or(0, |row| 10 * row.drainage));
+            assert!(cell.lost() <= cell.deepest, "cell {i} below its water");
+            if oxidised + burned > 0 && cell.lost() == cell.deepest {
+                met.count("cell in a closing", "sunk to its deepest water so far");
+            }
         }
     }
 
-    /// What the site's figures make possible: a fire down to the water, and of peat thinner than 300 mm.
-    fn count_fire(&self, met: &mut Met, cell: usize, stayed_dry: i128) {
-        let entered = self.site.cells[cell].entered;
-        if stayed_dry == 0 {
-            met.count("fire", "down to the water, with a guard of 0");
+    /// A cell that was converted by the year last closed, as it was at the start of that year.
+    fn cell_year(&self, i: usize) -> CellYear {
+        let cell = &self.cells[i];
+        let row = row_of_year(self.site, i, cell.plan, self.history.closings());
+        CellYear {
+            row: row.expect("a converted cell"),
+            guard: self.site.guard(),
+            entered: self.site.cells[i].entered,
+            oxidised: cell.oxidised,
+            burned: cell.burned,
         }
-        if self.site.guard() > 400 {
-            met.count("fire", "with a guard above 400");
+    }
+
+    /// What it left dry, and what the site's figures make possible: a fire down to the water, and of peat thinner than
+    /// 300 mm.
+    fn count_fire(&self, met: &mut Met, fire: &Fire) {
+        let year = self.cell_year(fire.cell);
+        let exactly = fire.stayed_dry == i128::from(year.guard);
+        // The history has d less the burned line.
+        let burned = i128::from(year.d(Rule::Benchmark)) - fire.stayed_dry;
+        let by_the_table = i128::from(year.level()) - burned;
+        let [_, deeper] = year.losses(Rule::YearsSurface);
+        let thin = year.remaining() < self.site.thickness();
+        for (is, row) in [
+            (exactly, "left exactly the guard"),
+            (
+                exactly && year.lost() > 0,
+                "left exactly the guard, after earlier losses",
+            ),
+            (
+                exactly && by_the_table > i128::from(year.guard),
+                "left exactly the guard, more by 10 x the table value",
+            ),
+            (
+                i128::from(deeper) > burned,
+                "that would be deeper by 10 x the table value",
+            ),
+            (fire.stayed_dry == 0, "down to the water, with a guard of 0"),
+            (year.guard > 400, "with a guard above 400"),
+            (thin, "of a cell sunk below the least thickness"),
+            (year.entered < 300, "of a cell entered below 300 mm"),
+        ] {
+            met.count_if(is, "fire", row);
         }
-        if entered - self.lost[cell] < self.site.thickness() {
-            met.count("fire", "of a cell sunk below the least thickness");
-        }
-        if entered < 300 {
-            met.count("fire", "of a cell entered below 300 mm");
-        }
+    }
+
+    /// A withdrawn cell before the one that burned, with a table of its own.
+    fn count_neighbour(&self, met: &mut Met, cell: usize) {
+        let stratum = |cell: usize| self.site.cells[cell].stratum;
+        let is = cell
+            .checked_sub(1)
+            .is_some_and(|before| self.cells[before].withdrawn && stratum(before) != stratum(cell));
+        let row = "of a cell behind a withdrawn neighbour of another stratum";
+        met.count_if(is, "fire", row);
     }
 
     /// Which case of the year rule a cell met in the year just closed, and what alone limited its losses.
-    fn count_cell(&self, met: &mut Met, i: usize, burned: u32) {
-        let (cell, plan) = (self.site.cells[i], self.plans[i]);
-        let year = self.history.closings();
-        let inactive = match (self.withdrawn[i], plan) {
-            (true, _) => Some("withdrawn"),
-            (_, 0) => Some("plan year 0"),
-            _ if plan > year => Some("plan year ahead"),
-            _ if cell.entered < 300.min(self.site.thickness()) => Some("not peat"),
-            _ if cell.entered < self.site.thickness() => Some("not peat at 300 mm or more"),
-            _ => None,
-        };
-        if let Some(row) = inactive {
+    fn count_cell(&mut self, met: &mut Met, i: usize, [oxidised, burned]: [u32; 2]) {
+        let CellTally {
+            withdrawn, plan, ..
+        } = self.cells[i];
+        if let Some(row) = inactive(self.site, i, withdrawn, plan, self.history.closings()) {
             return met.count("cell in a closing", row);
         }
-        let row = self.site.tables[cell.stratum as usize][(year - plan) as usize];
-        let (d, remaining) = (10 * row.drainage, cell.entered - self.lost[i]);
-        let guard = self.site.guard();
+        let year = self.cell_year(i);
+        count_d(met, OPENED, &year, [oxidised, burned]);
+        let (d, guard) = (year.d(Rule::Benchmark), year.guard);
         let of_d = ["d below the guard", "d is the guard", "d above the guard"];
-        met.count(
-            "cell in a closing",
-            of_d[(d.cmp(&guard) as i8 + 1) as usize],
-        );
-        if cell.entered == 0 {
-            met.count("cell in a closing", "of 0 mm, with a least thickness of 0");
-        }
-        let rows = ["b alone", "R alone", "d - guard alone"];
-        if let Some(limit) = least_alone([row.burning, remaining, d.saturating_sub(guard)]) {
+        let row = of_d[(d.cmp(&guard) as i8 + 1) as usize];
+        met.count("cell in a closing", row);
+        let row = "of 0 mm, with a least thickness of 0";
+        met.count_if(year.entered == 0, "cell in a closing", row);
+        let lost = oxidised + burned > 0;
+        let row = "losing again after a year at d 0";
+        met.count_if(lost && self.cells[i].rested, "cell in a closing", row);
+        self.cells[i].rested = !lost && (self.cells[i].rested || d == 0);
+        let remaining = year.remaining();
+        let limits = [year.row.burning, remaining, d.saturating_sub(guard)];
+        if let Some(limit) = least_alone(limits) {
+            let rows = ["b alone", "R alone", "d - guard alone"];
             met.count("burned by", rows[limit]);
         }
-        let rows = ["o alone", "R - burned alone", "d - burned alone"];
-        if let Some(limit) = least_alone([row.oxidation, remaining - burned, d - burned]) {
+        let limits = [year.row.oxidation, remaining - burned, d - burned];
+        if let Some(limit) = least_alone(limits) {
+            let rows = ["o alone", "R - burned alone", "d - burned alone"];
             met.count("oxidised by", rows[limit]);
         }
     }
@@ -154,7 +213,7 @@ impl<'a> ListTally<'a> {
             met.count("claim asked", "depth");
             met.count("claim asked", "kilograms");
             self.count_kilograms(met, &account);
-            if self.lost[cell] > 0 {
+            if self.cells[cell].lost() > 0 {
                 met.count("claim asked", "depth of a cell that lost");
                 met.count("claim asked", "kilograms of a cell that lost");
             }

@@ -7,6 +7,7 @@ mod lent;
 mod lists;
 mod pools;
 mod readings;
+mod rule;
 
 use harness::met::Met;
 use std::time::Instant;
