@@ -80,8 +80,8 @@ pub fn any_site(random: &mut Random) -> Site {
     site(random, size)
 }
 
-/// Nearly the most cells, all of the most peat and carbon, and at times the greatest terms. From an open no cell loses more
-/// than 2,550 mm, and no balance is above 72,508,740 tonnes; that of a lent book may come near 254,770,500.
+/// Nearly the most cells, all of the most peat and carbon, and at times the greatest terms. From an open no cell loses
+/// more than 2,550 mm, and no balance is above 72,508,740 tonnes; that of a lent book may come near 254,770,500.
 fn richest(random: &mut Random) -> Site {
     let size = Size {
         cells: random.between(200, 256),
@@ -179,8 +179,8 @@ fn table(random: &mut Random, horizon: u32, wide: bool, guard: u32) -> Vec<Row> 
     rows
 }
 
-/// Follows a cell with much peat, and draws each age's water around where it loses nothing, burns nothing or loses what
-/// the row asks. Canals that silt up leave the surface below the water until they are deepened again.
+/// Follows a cell with much peat, and draws each age's water around where it loses nothing, burns nothing or loses
+/// what the row asks. Canals that silt up leave the surface below the water until they are deepened again.
 fn deepen(random: &mut Random, guard: u32, rows: &mut [Row]) {
     let silting = random.pick(&[3, 6, 100]);
     let (mut oxidised, mut burned) = (0, 0);

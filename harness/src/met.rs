@@ -367,8 +367,8 @@ const GROUPS: &[(&str, &[&str])] = &[
     ),
 ];
 
-/// The groups of a cell that may lose in a closing, where its book was opened and where it was lent: its d, and the wrong
-/// rules by which its lines would be otherwise.
+/// The groups of a cell that may lose in a closing, where its book was opened and where it was lent: its d, and the
+/// wrong rules by which its lines would be otherwise.
 pub const OPENED: [&str; 2] = ["d after losses, opened", "otherwise with, opened"];
 pub const LENT: [&str; 2] = ["d after losses, lent", "otherwise with, lent"];
 

@@ -60,34 +60,6 @@ fn logged_refused(number: u32, place: usize) -> LoggedAnswer {
     }
 }
 
-/// One cell, converted in year 1, with one row.
-fn one_cell(row: Row, entered: u32) -> Vec<u32> {
-    one_cell_of(None, row, entered)
-}
-
-/// The same of a site with its own figures.
-fn one_cell_of(site_word: Option<SiteWord>, row: Row, entered: u32) -> Vec<u32> {
-    let cell = Cell {
-        stratum: 0,
-        conversion: 1,
-        entered,
-        area: 10_000,
-        density: 500,
-    };
-    let site = Site {
-        horizon: 1,
-        char: 0,
-        buffer: 20,
-        warming: 25,
-        methane: 12,
-        site_word,
-        tables: vec![vec![row]],
-        cells: vec![cell],
-        terms: vec![],
-    };
-    site.words()
-}
-
 fn row(drainage: u32, oxidation: u32, burning: u32) -> Row {
     Row {
         drainage,
@@ -96,11 +68,50 @@ fn row(drainage: u32, oxidation: u32, burning: u32) -> Row {
     }
 }
 
-/// The lines of the first year of one cell that has lost so much.
-fn lines_of_lent(ledger: &Ledger, listing: &[u32], [oxidised, burned]: [u32; 2]) -> [u32; 3] {
+/// One cell of 2,000 mm with a row for each year, of 10,000 m² and a density of 500, G 25 and e 12: K is 5,000,000, and
+/// the kg to date are (1,100,000 × O + 1,220,000 × B) / 600, rounded down.
+fn site_of_years(site_word: Option<SiteWord>, conversion: u32, rows: &[Row]) -> Site {
+    let cell = Cell {
+        stratum: 0,
+        conversion,
+        entered: 2_000,
+        area: 10_000,
+        density: 500,
+    };
+    Site {
+        horizon: rows.len() as u32,
+        char: 0,
+        buffer: 20,
+        warming: 25,
+        methane: 12,
+        site_word,
+        tables: vec![rows.to_vec()],
+        cells: vec![cell],
+        terms: vec![],
+    }
+}
+
+/// One cell, converted in year 1, with one row.
+fn one_cell(row: Row, entered: u32) -> Vec<u32> {
+    one_cell_of(None, row, entered)
+}
+
+/// The same of a site with its own figures.
+fn one_cell_of(site_word: Option<SiteWord>, row: Row, entered: u32) -> Vec<u32> {
+    let mut site = site_of_years(site_word, 1, &[row]);
+    site.cells[0].entered = entered;
+    site.words()
+}
+
+/// A book of year 0 with one cell that has lost so much.
+fn lent_book([oxidised, burned]: [u32; 2]) -> [u32; 5] {
     let (o, b) = (11 << 28 | oxidised, 12 << 28 | burned);
-    let mut book = [8 << 28, 9 << 28, 10 << 28 | 1, o, b];
-    let mut lines = [0; 3];
+    [8 << 28, 9 << 28, 10 << 28 | 1, o, b]
+}
+
+/// The lines of the first year of such a book.
+fn lines_of_lent(ledger: &Ledger, listing: &[u32], lost: [u32; 2]) -> [u32; LINE_WORDS] {
+    let (mut book, mut lines) = (lent_book(lost), [0; LINE_WORDS]);
     assert_eq!((ledger.close)(listing, &mut book, &mut lines), accepted(0));
     lines
 }
@@ -129,8 +140,8 @@ fn worked_years() {
     }
 }
 
-/// A table value of 45 cm is 450 mm from the surface at conversion: O + B before the year, to burned and oxidised, whether
-/// O, B or both were lost.
+/// A table value of 45 cm is 450 mm from the surface at conversion: O + B before the year, to burned and oxidised,
+/// whether O, B or both were lost.
 #[test]
 fn drained_from_the_benchmark() {
     let rows = [
@@ -161,31 +172,8 @@ fn drained_from_the_benchmark() {
     }
 }
 
-/// One cell of 2,000 mm with a row for each year, of 10,000 m² and a density of 500, G 25 and e 12: K is 5,000,000, and the
-/// kg to date are (1,100,000 × O + 1,220,000 × B) / 600, rounded down.
-fn site_of_years(site_word: Option<SiteWord>, conversion: u32, rows: &[Row]) -> Site {
-    let cell = Cell {
-        stratum: 0,
-        conversion,
-        entered: 2_000,
-        area: 10_000,
-        density: 500,
-    };
-    Site {
-        horizon: rows.len() as u32,
-        char: 0,
-        buffer: 20,
-        warming: 25,
-        methane: 12,
-        site_word,
-        tables: vec![rows.to_vec()],
-        cells: vec![cell],
-        terms: vec![],
-    }
-}
-
-/// The oxidised and burned mm and the kg of each year, of one cell from an open, with a replan after so many years; the
-/// forecast has the same kg where there is none.
+/// The oxidised and burned mm and the kg of each year, of one cell from an open, with a replan after so many years;
+/// the forecast has the same kg where there is none.
 fn closes_as(site: &Site, replan: Option<(usize, u32)>, years: &[[u32; LINE_WORDS]]) {
     let listing = site.words();
     both(|ledger| {
@@ -219,8 +207,8 @@ fn deepened() -> [Row; 4] {
     ]
 }
 
-/// What they take: d is 450, 500 − 95, 600 − 145 and 650 − 210, and a fire may burn d − 400. O and B to date are 45 and 50,
-/// 90 and 55, 135 and 75, 180 and 115; the kg to date 184,166.7, 276,833.3, 400,000 and 563,833.3.
+/// What they take: d is 450, 500 − 95, 600 − 145 and 650 − 210, and a fire may burn d − 400. O and B to date are 45
+/// and 50, 90 and 55, 135 and 75, 180 and 115; the kg to date 184,166.7, 276,833.3, 400,000 and 563,833.3.
 const DEEPENED: [[u32; LINE_WORDS]; 4] = [
     [45, 50, 184_166],
     [45, 5, 92_667],
@@ -245,9 +233,9 @@ fn canals_deepened_of_a_later_cell() {
     closes_as(&site, Some((1, 0)), &[nothing; 4]);
 }
 
-/// The canals silt up, and the surface rests below the water until they are deepened: with 90 mm lost d is 0 by 80 cm less
-/// than that and by just that much, then 10; with 100 lost 400, with 140 lost 460. O and B to date are 40 and 50, then 50
-/// and 50, 90 and 50, 130 and 110; the kg to date 175,000, 193,333.3, 266,666.7 and 462,000.
+/// The canals silt up, and the surface rests at the water or below it until they are deepened. With 90 mm lost d is 0
+/// of a table value of 8 cm and of 9 cm, and 10 of one of 10 cm; with 100 lost it is 400, with 140 lost 460. O and B to
+/// date are 40 and 50, 50 and 50, 90 and 50, 130 and 110; the kg to date 175,000, 193,333.3, 266,666.7 and 462,000.
 #[test]
 fn canals_silted_and_deepened() {
     let rows = [45, 8, 9, 10, 50, 60].map(|drainage| row(drainage, 40, 340));
@@ -262,33 +250,23 @@ fn canals_silted_and_deepened() {
     closes_as(&site_of_years(None, 1, &rows), None, &years);
 }
 
-/// With a guard of 100 d is 450, 450 − 385 = 65, 20 and 0; with none the second fire burns all 65. A guard of 355 leaves
-/// 95 to the first fire and nothing to later ones; one of 354 leaves 96, and d is then 309.
+/// With a guard of 100 d is 450, 65, 20 and 0: O and B to date are 45 and 340, 90 and 340, 110 and 340, and the kg to
+/// date 773,833.3, 856,333.3 and 893,000. With a guard of 0 the second fire burns all 65, to 906,000 kg. One of 355
+/// leaves 95 mm to the first fire, 275,666.7 kg, and none to later ones: d is then 310, 265 and 220.
 #[test]
 fn guards_from_the_benchmark() {
-    // O and B to date are 45 and 340, 90 and 340, 110 and 340; with a guard of 0 45 and 340, 45 and 405; with a guard of 355
-    // 45 and 95, then 45 mm a year.
-    let rows = [row(45, 45, 340); 4];
     let first = [45, 340, 773_833];
-    let years = [
-        (100, [first, [45, 0, 82_500], [20, 0, 36_667], [0, 0, 0]]),
-        (0, [first, [0, 65, 132_167], [0, 0, 0], [0, 0, 0]]),
-        (
-            355,
-            [
-                [45, 95, 275_666],
-                [45, 0, 82_500],
-                [45, 0, 82_500],
-                [45, 0, 82_500],
-            ],
-        ),
+    let [nothing, oxidised] = [[0; LINE_WORDS], [45, 0, 82_500]];
+    let of_guards = [
+        (100, [first, oxidised, [20, 0, 36_667], nothing]),
+        (0, [first, [0, 65, 132_167], nothing, nothing]),
+        (355, [[45, 95, 275_666], oxidised, oxidised, oxidised]),
     ];
-    for (guard, years) in years {
-        let site_word = Some(SiteWord {
-            guard,
-            thickness: 300,
-        });
-        closes_as(&site_of_years(site_word, 1, &rows), None, &years);
+    for (guard, years) in of_guards {
+        let thickness = 300;
+        let site_word = Some(SiteWord { guard, thickness });
+        let site = site_of_years(site_word, 1, &[row(45, 45, 340); 4]);
+        closes_as(&site, None, &years);
     }
 }
 
@@ -308,11 +286,7 @@ fn site_figures() {
         (0, 0, 10, 340, 5, 5),
     ];
     for (guard, thickness, dry, burning, entered, burned) in rows {
-        let row = Row {
-            drainage: dry / 10,
-            oxidation: 0,
-            burning,
-        };
+        let row = row(dry / 10, 0, burning);
         let listing = one_cell_of(Some(SiteWord { guard, thickness }), row, entered);
         both(|ledger| {
             let (mut book, mut lines) = ([0; 5], [0; 3]);
@@ -385,17 +359,11 @@ fn emissions_with_char() {
         (1, 1, 0, 1, 1, 1_364, 1_378, 1),
     ];
     for (char, warming, methane, area, density, oxidised, burned, kg) in rows {
-        let row = Row {
-            drainage: 0,
-            oxidation: 0,
-            burning: 0,
-        };
-        let mut listing = one_cell(row, 20_000);
+        let mut listing = one_cell(row(0, 0, 0), 20_000);
         listing[1] = 2 << 28 | char << 23 | warming << 8 | methane;
         listing[4] = 5 << 28 | area << 12 | density;
         both(|ledger| {
-            let (o, b) = (11 << 28 | oxidised, 12 << 28 | burned);
-            let book = [8 << 28, 9 << 28, 10 << 28 | 1, o, b];
+            let book = lent_book([oxidised, burned]);
             let answer = (ledger.statement)(&listing, &book, 0);
             assert_eq!((answer.number, answer.kg), (0, kg));
         });
@@ -1118,12 +1086,7 @@ fn largest() {
 /// The greatest year of a cell: its kg line is 50,740,800, far below the limit of 14, and less with char.
 #[test]
 fn greatest_line() {
-    let row = Row {
-        drainage: 255,
-        oxidation: 1_023,
-        burning: 1_023,
-    };
-    let mut listing = one_cell(row, 20_000);
+    let mut listing = one_cell(row(255, 1_023, 1_023), 20_000);
     listing[4] = 5 << 28 | 10_000 << 12 | 2_400;
     for (char, kg) in [(0, 50_740_800), (1, 50_650_776), (31, 47_950_056)] {
         listing[1] = 2 << 28 | char << 23 | 100 << 8 | 100;
@@ -1140,29 +1103,12 @@ fn greatest_line() {
 /// kg and each later one 82,500, as worked in document 01. The numbers so far are the statements' kg to date.
 #[test]
 fn forecast_of_three_cells() {
-    let row = |burning| Row {
-        drainage: 70,
-        oxidation: 45,
-        burning,
-    };
+    let mut site = site_of_years(None, 1, &[row(70, 45, 340), row(70, 45, 0), row(70, 45, 0)]);
     let cell = |conversion| Cell {
-        stratum: 0,
         conversion,
-        entered: 2_000,
-        area: 10_000,
-        density: 500,
+        ..site.cells[0]
     };
-    let site = Site {
-        horizon: 3,
-        char: 0,
-        buffer: 20,
-        warming: 25,
-        methane: 12,
-        site_word: None,
-        tables: vec![vec![row(340), row(0), row(0)]],
-        cells: vec![cell(1), cell(2), cell(0)],
-        terms: vec![],
-    };
+    site.cells = vec![cell(1), cell(2), cell(0)];
     let listing = site.words();
     let years = [692_500, 82_500 + 692_500, 82_500 + 82_500];
     both(|ledger| {
@@ -1196,9 +1142,9 @@ fn forecast_in_another_order() {
     });
 }
 
-/// 256 cells of 20,000 mm that burn down to the deepest water with the greatest weight, for a guard of 0 leaves nothing dry:
-/// 2,550 mm and 104,040,000 kg each, 26,634,240,000 in all. A year burns 1,023 mm, the third the 504 above the water, and a
-/// mm of all cells emits 256 × 40,800 kg.
+/// 256 cells of 20,000 mm that burn down to the deepest water with the greatest weight, for a guard of 0 leaves nothing
+/// dry: 2,550 mm and 104,040,000 kg each, 26,634,240,000 in all. A year burns 1,023 mm, the third the 504 above the
+/// water, and a mm of all cells emits 256 × 40,800 kg.
 #[test]
 fn greatest_total() {
     let no_guard = SiteWord {
@@ -1224,7 +1170,7 @@ fn greatest_total() {
     });
 }
 
-/// The most that a book of lent figures holds: 256 cells that have burned all of their 20,000 mm, 816,000,000 kg each, are
+/// The greatest balance of any book: 256 cells that have burned all of their 20,000 mm, 816,000,000 kg each, are
 /// 208,896,000 t, and 700 terms of 65,535 t are 45,874,500 more.
 #[test]
 fn greatest_balance_of_a_lent_book() {
@@ -1315,8 +1261,8 @@ fn claims_fail_of(listing: &[u32], tonnes: u32) {
     }
 }
 
-/// Cells of 1 m² emit only by their sums: rounding each year by itself would give 0 for ever. Density, o and b of each year,
-/// to the years whose line is 1 kg.
+/// Cells of 1 m² emit only by their sums: rounding each year by itself would give 0 for ever. Density, o and b of each
+/// year, to the years whose line is 1 kg.
 #[test]
 fn small_cells_emit() {
     let cells: [(u32, u32, u32, &[usize]); 2] = [

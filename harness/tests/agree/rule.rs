@@ -29,8 +29,8 @@ pub fn inactive(
     }
 }
 
-/// Of a cell that may lose, with the oxidised and burned mm that were handed out: its d, and the wrong rules by which they
-/// would be otherwise, in these two groups.
+/// Of a cell that may lose, with the oxidised and burned mm that were handed out: its d, and the wrong rules by which
+/// they would be otherwise, in these two groups.
 pub fn count_d(met: &mut Met, [of_d, otherwise]: [&str; 2], year: &CellYear, lines: [u32; 2]) {
     assert_eq!(year.losses(Rule::Benchmark), lines, "{year:?}");
     for (rule, row) in WRONG_RULES {
