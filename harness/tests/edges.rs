@@ -250,6 +250,46 @@ fn canals_silted_and_deepened() {
     closes_as(&site_of_years(None, 1, &rows), None, &years);
 }
 
+/// 300 mm of peat above water that goes deeper: the second fire burns the 205 mm that are left, of d − 400 = 305, and
+/// then nothing is left at a d of 900. O and B to date are 45 and 50, 45 and 255; the kg to date 184,166.7 and 601,000.
+#[test]
+fn peat_that_runs_out_above_the_water() {
+    let rows = [45, 80, 120].map(|drainage| row(drainage, 45, 340));
+    let mut site = site_of_years(None, 1, &rows);
+    site.cells[0].entered = 300;
+    closes_as(&site, None, &[[45, 50, 184_166], [0, 205, 416_834], [0; 3]]);
+}
+
+/// Each cell of a book goes by its own O + B, as `drained_from_the_benchmark` has them, and not by its neighbour's.
+#[test]
+fn cells_drained_by_their_own_losses() {
+    let cells = [
+        ([450, 0], 0, 0),
+        ([0, 0], 45, 50),
+        ([0, 406], 44, 0),
+        ([20, 29], 45, 1),
+        ([0, 451], 0, 0),
+        ([49, 1], 45, 0),
+    ];
+    let mut site = site_of_years(None, 1, &[row(45, 45, 340)]);
+    site.cells = vec![site.cells[0]; cells.len()];
+    let listing = site.words();
+    let mut book = lent_book([0, 0])[..2].to_vec();
+    book.extend(
+        cells
+            .iter()
+            .flat_map(|(lost, _, _)| lent_book(*lost)[2..].to_vec()),
+    );
+    both(|ledger| {
+        let mut lines = vec![0; site.line_words()];
+        let answer = (ledger.close)(&listing, &mut book.clone(), &mut lines);
+        assert_eq!(answer, accepted(0));
+        for ((_, oxidised, burned), line) in cells.iter().zip(lines.chunks(LINE_WORDS)) {
+            assert_eq!(line[..2], [13 << 28 | oxidised, 14 << 28 | burned]);
+        }
+    });
+}
+
 /// With a guard of 100 d is 450, 65, 20 and 0: O and B to date are 45 and 340, 90 and 340, 110 and 340, and the kg to
 /// date 773,833.3, 856,333.3 and 893,000. With a guard of 0 the second fire burns all 65, to 906,000 kg. One of 355
 /// leaves 95 mm to the first fire, 275,666.7 kg, and none to later ones: d is then 310, 265 and 220.

@@ -90,7 +90,8 @@ impl<'a> ListTally<'a> {
             let holds = self.history.guard_holds(&fire);
             assert!(holds, "a fire of cell {}", fire.cell);
             met.count("claim asked", "dry after a fire");
-            self.count_fire(met, &fire);
+            let burned = lines[LINE_WORDS * fire.cell + 1] & 0x0FFF_FFFF;
+            self.count_fire(met, &fire, burned);
             self.count_neighbour(met, fire.cell);
         }
         for (i, line) in (0..self.cells.len()).zip(lines.chunks_exact(LINE_WORDS)) {
@@ -124,12 +125,11 @@ impl<'a> ListTally<'a> {
 
     /// What it left dry, and what the site's figures make possible: a fire down to the water, and of peat thinner than
     /// 300 mm.
-    fn count_fire(&self, met: &mut Met, fire: &Fire) {
+    fn count_fire(&self, met: &mut Met, fire: &Fire, burned: u32) {
         let year = self.cell_year(fire.cell);
+        let dry = i128::from(year.d(Rule::Benchmark)) - i128::from(burned);
+        assert_eq!(fire.stayed_dry, dry, "a fire of cell {}", fire.cell);
         let exactly = fire.stayed_dry == i128::from(year.guard);
-        // The history has d less the burned line.
-        let burned = i128::from(year.d(Rule::Benchmark)) - fire.stayed_dry;
-        let by_the_table = i128::from(year.level()) - burned;
         let [_, deeper] = year.losses(Rule::YearsSurface);
         let thin = year.remaining() < self.site.thickness();
         for (is, row) in [
@@ -139,11 +139,11 @@ impl<'a> ListTally<'a> {
                 "left exactly the guard, after earlier losses",
             ),
             (
-                exactly && by_the_table > i128::from(year.guard),
+                exactly && year.level() - burned > year.guard,
                 "left exactly the guard, more by 10 x the table value",
             ),
             (
-                i128::from(deeper) > burned,
+                deeper > burned,
                 "that would be deeper by 10 x the table value",
             ),
             (fire.stayed_dry == 0, "down to the water, with a guard of 0"),
