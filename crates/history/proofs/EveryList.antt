@@ -11,14 +11,14 @@ use Rattle.opening.specs.Opening.{open_entry}
 use Rattle.ledger.specs.Calls.{open_effect, figures_of, statement_answer, Call}
 use Rattle.ledger.proofs.AdmittedCell.{cell_admitted}
 use Rattle.ledger.proofs.After.{opened_holds}
-use Rattle.history.specs.History.{State, next, run, BroughtForward, brought_forward_by_open, year_in, plan_in, sum_of, issued_in, highest, EachClosing, d_of, EveryUnconverted, deepest_level_in, EveryDrained, EveryDrainedFrom}
+use Rattle.history.specs.History.{State, next, run, BroughtForward, brought_forward_by_open, year_in, plan_in, sum_of, issued_in, highest, EachClosing, d_of, EveryUnconverted, EveryDrained, EveryDrainedFrom}
 use Rattle.history.specs.History.{Claims, EveryList, IsBroughtForward, EveryListFrom}
 use Rattle.book.proofs.AcceptedBook.{shaped, accepted_book}
 use Rattle.history.proofs.Invariant.{Inv, closed_lines_by_d, kept_step}
 
 -- before the first call
 kept_start : (l b : List ℕ) (s : BroughtForward) → (admitted l b).done ≡ true → IsBroughtForward l b s → Inv l s b []
-unfolding year_in plan_in sum_of issued_in highest EachClosing deepest_level_in
+unfolding year_in plan_in sum_of issued_in highest EachClosing
 kept_start l b s admits brought =
     record {
       admits = admits;
@@ -29,7 +29,7 @@ kept_start l b s admits brought =
       burned_is = brought.burned_is;
       kilograms = brought.kg_is;
       dry = λ i p. tt;
-      level = λ i p. omega arith;
+      level = λ i m p lost levels. lost;
       top = refl;
     }
 
@@ -66,7 +66,7 @@ every_list_from l b s admits brought calls = claims l s _ (kept_list l b s admit
 pub every_drained_from : EveryDrainedFrom
 every_drained_from l b s admits brought calls i p =
     let kept = kept_list l b s admits brought calls in
-    record { within = kept.level i p; lines = λ x done q. closed_lines_by_d l s _ _ kept x done i p q }
+    record { within = λ m. kept.level i m p; lines = λ x done q. closed_lines_by_d l s _ _ kept x done i p q }
 
 module _ (l b : List ℕ) (done : (open_effect l b).answer.done ≡ true) where
   holds : Holds l (open_effect l b).book 0 0 (open_entry l)

@@ -2,7 +2,7 @@
 use mathlib.Core.Path.{◌≡◌, refl, ap, ◌∙◌}
 use mathlib.Core.Bool.{Bool, true, false, cond}
 use mathlib.Core.List.{List, ◌∷◌}
-use Prim.Native.Nat.{ℕ, suc, max, ◌+◌, ◌≤◌, ◌<◌}
+use Prim.Native.Nat.{ℕ, ◌+◌, ◌≤◌, ◌<◌}
 use native.Mathlib.Omega.{arith}
 use native.Mathlib.Numerals.{add-one}
 use lib.Dec.{eqb}
@@ -10,7 +10,7 @@ use Rattle.words.specs.Bits.{at_least_0}
 use Rattle.words.proofs.Signed.{by_test}
 use Rattle.listing.specs.Layout.{head, cells, row, cell}
 use Rattle.year.specs.declared.Entry.{Entry}
-use Rattle.year.specs.Year.{inactive, drainage_level_in, emission}
+use Rattle.year.specs.Year.{unconverted, inactive, age, drainage_level, emission}
 use Rattle.year.specs.Year.{planned, marked}
 use Rattle.year.proofs.Laws.{active, mm_by_d, year_kg_lem, year_dry, year_level}
 use Rattle.book.specs.Current.{issued, entry, kg_to_date, admitted, Holds}
@@ -21,7 +21,7 @@ use Rattle.closing.specs.Closing.{loss}
 use Rattle.ledger.specs.Calls.{close_effect, replan_effect, withdraw_effect, issue_effect, Call, Close, Replan, Withdraw, Issue, call_effect}
 use Rattle.ledger.proofs.After.{closed_holds, closed_line, replanned_holds, withdrawn_holds, issued_holds, issued_value, call_refused}
 use Rattle.history.specs.History.{event_of, step, Event, Lines, Replanned, Issued, Nothing, History, BroughtForward, year_in, plan_in, sum_of, oxidised_in, burned_in, kg_in}
-use Rattle.history.specs.History.{issued_in, balance_at, highest, EachClosing, d_of, StayedDry, deepest_level_in, LinesByD}
+use Rattle.history.specs.History.{issued_in, balance_at, highest, EachClosing, d_of, StayedDry, LevelAtMost, LinesByD}
 
 -- the book b is admitted and says what the history h says, and the claims hold of h. A record type with no name: at an event that
 -- changes nothing it computes to itself, and the old proof is the new one
@@ -36,7 +36,7 @@ Inv l s b h =
       burned_is : (i : ℕ) → i < cells l → (entry b i).burned ≡ burned_in s h i;
       kilograms : (i : ℕ) → i < cells l → kg_in s h i ≡ emission (head l) (cell l i) (oxidised_in s h i) (burned_in s h i);
       dry : (i : ℕ) → i < cells l → EachClosing (StayedDry l s i) h;
-      level : (i : ℕ) → i < cells l → oxidised_in s h i + burned_in s h i ≤ deepest_level_in l s h i;
+      level : (i m : ℕ) → i < cells l → s.oxidised i + s.burned i ≤ m → EachClosing (LevelAtMost l s i m) h → oxidised_in s h i + burned_in s h i ≤ m;
       top : issued_in s h ≡ highest l s h;
     }
 
@@ -48,7 +48,7 @@ plan_of_lem false x y u w e f = f
 module _ (l : List ℕ) (s : BroughtForward) (b : List ℕ) (h : History) (v : Inv l s b h) where
   -- ---- a call that gives nothing and leaves the book
   kept_nothing : (b' : List ℕ) → b' ≡ b → Inv l s b' (Nothing ∷ h)
-  unfolding year_in plan_in sum_of issued_in highest EachClosing deepest_level_in
+  unfolding year_in plan_in sum_of issued_in highest EachClosing
   kept_nothing b' e = rw e v
 
   -- ---- a closing with a lines buffer x
@@ -77,15 +77,16 @@ module _ (l : List ℕ) (s : BroughtForward) (b : List ℕ) (h : History) (v : I
           oxidised = line.0 ∙ rw (line.1, ← v.year_is, ← (v.plan_is i p), ← (v.oxidised_is i p), ← (v.burned_is i p), ← (add-one (year b)), converted) rule.1;
         }
 
-    closed_level : (i : ℕ) → i < cells l →
-        (oxidised_in s h i + (loss l b i).oxidised) + (burned_in s h i + (loss l b i).burned)
-        ≤ max (drainage_level_in (row l) (cell l i) (plan_in s h i) (suc (year_in s h))) (deepest_level_in l s h i)
-    closed_level i p =
-        let most = year_level (head l) (row l) (cell l i) (entry b i) (year b + 1) in
-        rw (← v.year_is, ← (v.plan_is i p), ← (add-one (year b))) (omega (arith, most, v.level i p, v.oxidised_is i p, v.burned_is i p))
+    closed_level : (i m : ℕ) → i < cells l → s.oxidised i + s.burned i ≤ m → LevelAtMost l s i m (close_effect l b x).output h → EachClosing (LevelAtMost l s i m) h →
+        (oxidised_in s h i + (loss l b i).oxidised) + (burned_in s h i + (loss l b i).burned) ≤ m
+    closed_level i m p brought level levels =
+        let now : unconverted (entry b i).plan (year b + 1) ≡ false → drainage_level (row l (cell l i).stratum (age (entry b i).plan (year b + 1))) ≤ m =
+        rw (v.year_is, v.plan_is i p, add-one (year_in s h)) level in
+        let before : (entry b i).oxidised + (entry b i).burned ≤ m = omega (arith, v.level i m p brought levels, v.oxidised_is i p, v.burned_is i p) in
+        omega (arith, year_level (head l) (row l) (cell l i) (entry b i) (year b + 1) m now before, v.oxidised_is i p, v.burned_is i p)
 
     kept_close : Inv l s (close_effect l b x).book (Lines (close_effect l b x).output ∷ h)
-    unfolding year_in plan_in sum_of issued_in highest EachClosing deepest_level_in
+    unfolding year_in plan_in sum_of issued_in highest EachClosing
     kept_close =
         let holds = closed_holds l b x done in
         let line = closed_line l b x done in
@@ -98,7 +99,7 @@ module _ (l : List ℕ) (s : BroughtForward) (b : List ℕ) (h : History) (v : I
           burned_is = λ i p. omega (arith, ap (λ (e : Entry). e.burned) (holds.entry_is i p), v.burned_is i p, (line i p).1);
           kilograms = λ i p. rw ((line i p).0, (line i p).1, (line i p).2) (closed_kilograms i p);
           dry = λ i p. (rw (line i p).1 (closed_dry i p), v.dry i p);
-          level = λ i p. rw ((line i p).0, (line i p).1) (closed_level i p);
+          level = λ i m p brought levels. rw ((line i p).0, (line i p).1) (closed_level i m p brought levels.0 levels.1);
           top = v.top;
         }
 
@@ -109,7 +110,7 @@ module _ (l : List ℕ) (s : BroughtForward) (b : List ℕ) (h : History) (v : I
         ap f (holds.entry_is j p) ∙ by_test (λ (e : Entry). f e ≡ f (entry b j)) (eqb i j) (change (entry b j)) (entry b j) (λ here. keeps (entry b j)) (λ other. refl)
 
   kept_replan : (i y : ℕ) → (replan_effect l b i y).answer.done ≡ true → Inv l s (replan_effect l b i y).book (Replanned i y ∷ h)
-  unfolding year_in plan_in sum_of issued_in highest EachClosing deepest_level_in
+  unfolding year_in plan_in sum_of issued_in highest EachClosing
   kept_replan i y done =
       let holds = replanned_holds l b i y done in
       let same = same_field (replan_effect l b i y).book i (λ (e : Entry). planned e y) holds in
@@ -127,7 +128,7 @@ module _ (l : List ℕ) (s : BroughtForward) (b : List ℕ) (h : History) (v : I
       }
 
   kept_withdraw : (i : ℕ) → (withdraw_effect l b i).answer.done ≡ true → Inv l s (withdraw_effect l b i).book (Nothing ∷ h)
-  unfolding year_in plan_in sum_of issued_in highest EachClosing deepest_level_in
+  unfolding year_in plan_in sum_of issued_in highest EachClosing
   kept_withdraw i done =
       let holds = withdrawn_holds l b i done in
       let same = same_field (withdraw_effect l b i).book i marked holds in
@@ -149,7 +150,7 @@ module _ (l : List ℕ) (s : BroughtForward) (b : List ℕ) (h : History) (v : I
   balance_is = balance_same l (year b) (year_in s h) (kg_to_date l b) (kg_in s h) v.year_is (λ i p. rw (v.kilograms i p, v.oxidised_is i p, v.burned_is i p))
 
   kept_issue : (issue_effect l b).answer.done ≡ true → Inv l s (issue_effect l b).book (Issued (issue_effect l b).answer.value ∷ h)
-  unfolding year_in plan_in sum_of issued_in highest EachClosing deepest_level_in
+  unfolding year_in plan_in sum_of issued_in highest EachClosing
   kept_issue done =
       let holds = issued_holds l b done in
       record {

@@ -6,7 +6,7 @@ use Rattle.words.specs.Bits.{at_least_0}
 use Rattle.words.specs.Effect.{Effect}
 use Rattle.fields.specs.declared.Row.{Row}
 use Rattle.listing.specs.Layout.{head, cells, guard, row, cell}
-use Rattle.year.specs.Year.{unconverted, inactive, age, drained, burned_by, oxidised_by, drainage_level_in, emission}
+use Rattle.year.specs.Year.{unconverted, inactive, age, drainage_level, drained, burned_by, oxidised_by, emission}
 use Rattle.book.specs.Current.{issued, entry, admitted}
 use Rattle.book.specs.Layout.{year, oxidised_line, burned_line, kg_line}
 use Rattle.balance.specs.Balance.{balance}
@@ -169,13 +169,9 @@ EveryList = (l b : List ℕ) → (open_effect l b).answer.done ≡ true → (cal
 
 -- ---- beside the claims: what was drained
 
--- the deepest drainage level of cell i in the years of the closings, or what was counted as lost before the list where no level was deeper
-unfoldable pub deepest_level_in : List ℕ → BroughtForward → History → ℕ → ℕ
-deepest_level_in l s [] i = s.oxidised i + s.burned i
-deepest_level_in l s (Lines x ∷ h) i = max (drainage_level_in (row l) (cell l i) (plan_in s h i) (suc (year_in s h))) (deepest_level_in l s h i)
-deepest_level_in l s (Replanned j y ∷ h) i = deepest_level_in l s h i
-deepest_level_in l s (Issued t ∷ h) i = deepest_level_in l s h i
-deepest_level_in l s (Nothing ∷ h) i = deepest_level_in l s h i
+-- if cell i was converted by the year after the history `before`, its drainage level then was at most m mm
+abbrev pub LevelAtMost : List ℕ → BroughtForward → ℕ → ℕ → List ℕ → History → Type 0
+LevelAtMost l s i m x before = unconverted (plan_in s before i) (suc (year_in s before)) ≡ false → drainage_level (row_of l s before i) ≤ m
 
 -- the mm lines x of cell i are those of the year rule, with d of the claims and with what the lines handed out before leave of its depth
 pub record LinesByD (l : List ℕ) (s : BroughtForward) (i : ℕ) (x : List ℕ) (before : History) : Type 0 where
@@ -184,10 +180,10 @@ pub record LinesByD (l : List ℕ) (s : BroughtForward) (i : ℕ) (x : List ℕ)
   pub oxidised : oxidised_line x i ≡
       oxidised_by (d_of l s before i) (row_of l s before i).oxidation ((cell l i).entered - (oxidised_in s before i + burned_in s before i)) (burned_line x i)
 
--- of cell i: no more was lost than down to its deepest drainage level, or than before the list; and where the next closing is accepted and
--- finds the cell active, its lines go by d of the claims
+-- of cell i: no more was lost than down to the deepest of its drainage levels in the years of the closings, or than before the list; and where
+-- the next closing is accepted and finds the cell active, its lines go by d of the claims
 pub record DrainedClaims (l : List ℕ) (s : BroughtForward) (state : State) (i : ℕ) : Type 0 where
-  pub within : oxidised_in s state.history i + burned_in s state.history i ≤ deepest_level_in l s state.history i
+  pub within : (m : ℕ) → s.oxidised i + s.burned i ≤ m → EachClosing (LevelAtMost l s i m) state.history → oxidised_in s state.history i + burned_in s state.history i ≤ m
   pub lines : (x : List ℕ) → (close_effect l state.book x).answer.done ≡ true → inactive (head l) (cell l i) (entry state.book i) (year state.book + 1) ≡ false →
       LinesByD l s i (close_effect l state.book x).output state.history
 

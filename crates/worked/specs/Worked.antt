@@ -115,6 +115,10 @@ benchmark_after_two = 0x80000002 ∷ 0x900000D4 ∷ 0xA0000001 ∷ 0xB000005A �
 abbrev pub benchmark_after_three : List ℕ
 benchmark_after_three = 0x80000003 ∷ 0x90000117 ∷ 0xA0000001 ∷ 0xB0000087 ∷ 0xC0000032 ∷ []
 
+-- two years of a first row with oxidation up to 1,023 mm, so that water ends it after a fire
+abbrev pub wide : List ℕ
+wide = 0x10010102 ∷ 0x2014190C ∷ 0x32DFFD54 ∷ 0x32D0B554 ∷ 0x400107D0 ∷ 0x527101F4 ∷ []
+
 -- the number and the place of a refused listing
 abbrev pub refusal : List ℕ → List ℕ
 refusal l = (checked l).number ∷ (checked l).place ∷ []
@@ -218,6 +222,8 @@ rows =
     ∷ row (loses benchmark 2000 206 200) (0 ∷ 44 ∷ [])
     ∷ row (loses benchmark 2000 250 200) (0 ∷ 0 ∷ [])
     ∷ row (loses benchmark 2000 451 0) (0 ∷ 0 ∷ [])
+    ∷ row (loses wide 2000 0 0) (50 ∷ 400 ∷ [])
+    ∷ row (loses wide 2000 30 0) (20 ∷ 400 ∷ [])
     ∷ row (logged_test 2 1 (100 ∷ 50 ∷ 30 ∷ []) (10 ∷ 10 ∷ []) (8000 ∷ [])) (0 ∷ 0 ∷ 72 ∷ 0 ∷ [])
     ∷ row (logged_test 3 2 densities areas discounts) (0 ∷ 0 ∷ 2153 ∷ 0 ∷ [])
     ∷ row (logged_test 3 2 (zeros 8) areas discounts) (0 ∷ 0 ∷ 0 ∷ 1 ∷ [])

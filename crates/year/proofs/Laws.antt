@@ -3,7 +3,7 @@
 use mathlib.Core.Path.{◌≡◌, refl, sym, ap, ap₂, ◌∙◌}
 use mathlib.Core.Logic.{⊎_elim}
 use mathlib.Core.Bool.{true, false}
-use Prim.Native.Nat.{ℕ, ◌+◌, ◌-◌, ◌*◌, max, ◌≤◌, ◌<◌}
+use Prim.Native.Nat.{ℕ, ◌+◌, ◌-◌, ◌*◌, ◌≤◌, ◌<◌}
 use native.Mathlib.Nat.{add-zero, mul-le-mul, sub_self}
 use native.Mathlib.Omega.{arith}
 use lib.Dec.{ltb, eqb}
@@ -14,7 +14,7 @@ use Rattle.fields.specs.Valid.{HeadValid, RowValid, CellValid}
 use Rattle.fields.specs.declared.Head.{Head}
 use Rattle.fields.specs.declared.Row.{Row}
 use Rattle.fields.specs.declared.Cell.{Cell}
-use Rattle.year.specs.Year.{unconverted, inactive, age, drained, drainage_level_in, remaining, burned_by, oxidised_by, burned_mm, mm_of, no_mm, year_mm, kg_of, loss_of, year_loss}
+use Rattle.year.specs.Year.{unconverted, inactive, age, drainage_level, drained, remaining, burned_by, oxidised_by, burned_mm, mm_of, no_mm, year_mm, kg_of, loss_of, year_loss}
 use Rattle.year.specs.Year.{burned_weight, emission_divisor, emission, EveryEmission, no_loss, most_line, most_emission, most_loss, after_loss}
 use Rattle.year.specs.Limits.{WithinLimits, SameFigures}
 use Rattle.year.specs.declared.Entry.{Entry}
@@ -235,20 +235,22 @@ module _ (h : Head) (rows : ℕ → ℕ → Row) (c : Cell) (e : Entry) (t : ℕ
       (λ q z. absurd (omega arith))
       (λ q z. ((active h c e t q).0, let m = mm_least h c row e in omega arith))
 
-  -- no more is lost than down to the drainage level, or than was lost before
-  mm_level : (e.oxidised + (year_mm h rows c e t).oxidised) + (e.burned + (year_mm h rows c e t).burned) ≤ max (drainage_level_in rows c e.plan t) (e.oxidised + e.burned)
-  mm_level =
-      mm_is (λ (m : LostMm). (e.oxidised + m.oxidised) + (e.burned + m.burned) ≤ max (drainage_level_in rows c e.plan t) (e.oxidised + e.burned)) (λ q. omega arith)
-      (λ q. rw (active h c e t q).0 (omega (arith, mm_least h c row e)))
+  -- where m mm are at least what was lost before, and the drainage level if the cell is converted, they are at least what is lost after the year
+  module _ (m : ℕ) (level : unconverted e.plan t ≡ false → drainage_level row ≤ m) (before : e.oxidised + e.burned ≤ m) where
+    mm_level : (e.oxidised + (year_mm h rows c e t).oxidised) + (e.burned + (year_mm h rows c e t).burned) ≤ m
+    mm_level =
+        mm_is (λ (x : LostMm). (e.oxidised + x.oxidised) + (e.burned + x.burned) ≤ m) (λ q. omega (arith, before))
+        (λ q. omega (arith, mm_least h c row e, level (active h c e t q).0, before))
 
-  pub year_level : (e.oxidised + (year_loss h rows c e t).oxidised) + (e.burned + (year_loss h rows c e t).burned) ≤ max (drainage_level_in rows c e.plan t) (e.oxidised + e.burned)
-  unfolding year_loss
-  year_level = mm_level
+    pub year_level : (e.oxidised + (year_loss h rows c e t).oxidised) + (e.burned + (year_loss h rows c e t).burned) ≤ m
+    unfolding year_loss
+    year_level = mm_level
 
-  -- nothing is lost in a year whose drainage level is no deeper than what was lost before
-  pub year_at_water : drainage_level_in rows c e.plan t ≤ e.oxidised + e.burned → year_loss h rows c e t ≡ no_loss
-  year_at_water p =
-      loss_none (ap₂ (λ (o b : ℕ). record { oxidised = o; burned = b }) (omega (arith, mm_level)) (omega (arith, mm_level)))
+  -- so nothing is lost in a year whose drainage level is no deeper than what was lost before
+  pub year_undrained : (unconverted e.plan t ≡ false → drainage_level row ≤ e.oxidised + e.burned) → year_loss h rows c e t ≡ no_loss
+  year_undrained p =
+      let most = mm_level (e.oxidised + e.burned) p (omega arith) in
+      loss_none (ap₂ (λ (o b : ℕ). record { oxidised = o; burned = b }) (omega (arith, most)) (omega (arith, most)))
 
   -- by the limits of a valid listing: no more than 2,046 mm are lost, no more than 1,023 mm of them burned
   module _ (head : HeadValid h) (cell : CellValid h.strata h.horizon c) (valid : (s a : ℕ) → RowValid (rows s a)) where

@@ -57,10 +57,6 @@ no_mm = record { oxidised = 0; burned = 0 }
 unfoldable pub year_mm : Head → (ℕ → ℕ → Row) → Cell → Entry → ℕ → LostMm
 year_mm h rows c e t = cond (inactive h c e t) no_mm (mm_of h c (rows c.stratum (age e.plan t)) e)
 
--- the drainage level of a cell with plan year `plan` in year t, by the row of its own stratum and of its own age; 0 while it is not converted
-abbrev pub drainage_level_in : (ℕ → ℕ → Row) → Cell → ℕ → ℕ → ℕ
-drainage_level_in rows c plan t = cond (unconverted plan t) 0 (drainage_level (rows c.stratum (age plan t)))
-
 -- the weight of a burned mm: 1,100,000 − 11,000 × the char percentage + 400 × G × e; that of an oxidised mm is 1,100,000
 unfoldable pub burned_weight : Head → ℕ
 burned_weight h = 1100000 - 11000 * h.char + 400 * h.warming * h.methane

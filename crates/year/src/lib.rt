@@ -117,7 +117,7 @@ fn oxidised_by(d: u32, o: u32, remaining: u32, burned: u32) -> u32
     requires { (burned ≤ remaining) × (burned ≤ d) }
     ensures { result ≡ oxidised_by d o remaining burned }
 {
-    o.min((remaining - burned).min(d - burned))
+    o.min(remaining.min(d) - burned)
 }
 
 // The weight of a burned mm in an emission: the CO2 of what is not left as char, and the methane.

@@ -1,9 +1,9 @@
 -- A cell's own years: every year is closed, without replanning or withdrawal. They follow from the listing l alone; `EveryYears` says that the
 -- book, opened and then closed t times, holds exactly these, and proofs/Held.antt proves it. `EveryLevel` says how deep a cell's losses go, and
 -- proofs/Level.antt proves it.
-use Rattle.std.specs.Prelude.{◌≡◌, true, List, ℕ, zero, suc, ◌+◌, ◌≤◌, ◌<◌, max}
+use Rattle.std.specs.Prelude.{◌≡◌, true, false, List, ℕ, zero, suc, ◌+◌, ◌≤◌, ◌<◌}
 use Rattle.listing.specs.Layout.{cells, horizon, row, cell}
-use Rattle.year.specs.Year.{drainage_level_in, after_loss}
+use Rattle.year.specs.Year.{unconverted, age, drainage_level, no_loss, after_loss}
 use Rattle.year.specs.declared.Entry.{Entry}
 use Rattle.year.specs.declared.Loss.{Loss}
 use Rattle.book.specs.Current.{new_book, fitted, Holds}
@@ -40,19 +40,17 @@ EveryYears = (l b : List ℕ) → (fitted l b).done ≡ true → (t : ℕ) → t
 abbrev pub lost_after : List ℕ → ℕ → ℕ → ℕ
 lost_after l t i = (entries_after l t i).oxidised + (entries_after l t i).burned
 
--- its drainage level in year t, and the deepest of the years 1 to t
-abbrev pub cell_level : List ℕ → ℕ → ℕ → ℕ
-cell_level l t i = drainage_level_in (row l) (cell l i) (cell l i).conversion t
+-- if it is converted by the year t + 1, its drainage level then is at most m mm
+abbrev pub LevelAtMost : List ℕ → ℕ → ℕ → ℕ → Type 0
+LevelAtMost l m t i =
+    let plan = (cell l i).conversion in
+    unconverted plan (t + 1) ≡ false → drainage_level (row l (cell l i).stratum (age plan (t + 1))) ≤ m
 
-unfoldable pub deepest_level : List ℕ → ℕ → ℕ → ℕ
-deepest_level l zero i = 0
-deepest_level l (suc t) i = max (cell_level l (t + 1) i) (deepest_level l t i)
-
--- after t years a cell has lost no more than down to its deepest drainage level so far; and as long as the level of no later year is deeper than
--- what it has lost by then, so that d is 0, it loses nothing: after u years its entry is that after t
+-- a cell loses no more than down to the deepest of its drainage levels so far; and in a year whose level is no deeper than what it has lost,
+-- so that d is 0, it loses nothing
 pub record WithinLevel (l : List ℕ) (t i : ℕ) : Type 0 where
-  pub within : lost_after l t i ≤ deepest_level l t i
-  pub unchanged : (u : ℕ) → t ≤ u → ((v : ℕ) → t < v → v ≤ u → cell_level l v i ≤ lost_after l t i) → entries_after l u i ≡ entries_after l t i
+  pub within : (m : ℕ) → ((u : ℕ) → u < t → LevelAtMost l m u i) → lost_after l t i ≤ m
+  pub unchanged : LevelAtMost l (lost_after l t i) t i → loss_in l i t ≡ no_loss
 
 abbrev pub EveryLevel : Type 0
 EveryLevel = (l : List ℕ) (t i : ℕ) → WithinLevel l t i
