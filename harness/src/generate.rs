@@ -259,8 +259,8 @@ fn terms(random: &mut Random, size: Size) -> Vec<YearlyTerm> {
     terms
 }
 
-/// The longest listing there is, 2,815 words, with the losses of a real site: canals are deepened by
-/// some 16 mm a year as the land sinks, so that its cells still lose in late years.
+/// The longest listing there is, 2,815 words. Its water falls by some 16 mm a year, so that its cells
+/// still lose in late years.
 pub fn largest() -> Site {
     let random = &mut Random(2_814);
     let fire_every_ten_years = |random: &mut Random, at_conversion: u32, age: u32| Row {

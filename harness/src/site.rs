@@ -1,6 +1,6 @@
 //! A project's figures, and the words of document 01's listing that say them.
 
-/// A stratum's year of age: drainage in cm, greatest oxidation and burning in mm.
+/// A stratum's year of age: drainage in cm below the surface at conversion, greatest oxidation and burning in mm.
 #[derive(Clone, Copy, Debug)]
 pub struct Row {
     pub drainage: u32,

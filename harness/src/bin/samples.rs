@@ -139,7 +139,7 @@ fn benchmark() -> Site {
 
 /// The tables of the three cells, taken as made for the rule that counted from each year's surface:
 /// what was lost by then, 140 and 170 mm of stratum 1, 350 and 390 mm of stratum 0, is added.
-fn three_cells_converted() -> Site {
+fn three_cells_restated() -> Site {
     let mut site = three_cells();
     site.tables[0][1].drainage += 35;
     site.tables[0][2].drainage += 39;
@@ -168,6 +168,13 @@ fn thin_peat() -> Site {
         ],
         terms: vec![],
     }
+}
+
+/// Its table, taken as made for the rule that counted from each year's surface: 180 mm are lost at age 1.
+fn thin_peat_restated() -> Site {
+    let mut site = thin_peat();
+    site.tables[0][1].drainage += 18;
+    site
 }
 
 /// Each stratum has figures of its own, so that a row of another one shows at once.
@@ -226,6 +233,11 @@ fn accepted() -> Vec<Sample> {
         Sample::of("worked-benchmark", BENCHMARK_ABOUT, &benchmark().contents())
             .expecting(BENCHMARK_TEXT),
         Sample::of("thin-peat", THIN_PEAT_ABOUT, &thin_peat().contents()),
+        Sample::of(
+            "thin-peat-restated",
+            THIN_PEAT_RESTATED_ABOUT,
+            &thin_peat_restated().contents(),
+        ),
         Sample::of("three-cells", THREE_CELLS_ABOUT, &three_cells().contents()),
         Sample::of(
             "three-cells-char",
@@ -233,9 +245,9 @@ fn accepted() -> Vec<Sample> {
             &three_cells_char.contents(),
         ),
         Sample::of(
-            "three-cells-converted",
-            THREE_CELLS_CONVERTED_ABOUT,
-            &three_cells_converted().contents(),
+            "three-cells-restated",
+            THREE_CELLS_RESTATED_ABOUT,
+            &three_cells_restated().contents(),
         ),
         Sample::of("unsorted", UNSORTED_ABOUT, &unsorted().contents()),
         Sample::of("largest", LARGEST_ABOUT, &generate::largest().contents()),
@@ -308,6 +320,10 @@ Three hectare cells of a site with a guard of 250 mm and a least thickness of pe
 Cell 0 has just the least thickness, and burns 150 mm in year 1, the drainage of 400 mm less the guard.
 Cell 1 is 1 mm short of it, and loses nothing. Cell 2 is converted in year 2.";
 
+const THIN_PEAT_RESTATED_ABOUT: &str = "\
+The site of thin-peat.txt, its table taken as made for the old rule, by which a drainage counted from each year's surface, and restated:
+150 mm burn and 30 mm oxidise at age 1, so age 2 has 40 + 18 = 58 cm. The lines are what they were by the old rule; those of thin-peat.txt are not.";
+
 const THREE_CELLS_ABOUT: &str = "\
 A small site: three hectare cells of two strata, not sorted by stratum.
 Stratum 0 lies at the canal and is drained to 80 cm, stratum 1 behind it to 50 cm.
@@ -320,9 +336,9 @@ const THREE_CELLS_CHAR_ABOUT: &str = "\
 The site of three-cells.txt with a char percentage of 13: word 1's second to fourth digit are 13 x 128 + 20 = 1,684, hexadecimal 694.
 Each burned mm has the factor 1,100,000 - 143,000 + 400 x 25 x 12 = 1,077,000 instead of 1,220,000; nothing else differs.";
 
-const THREE_CELLS_CONVERTED_ABOUT: &str = "\
-The site of three-cells.txt, its tables taken as made for the old rule, by which a drainage counted from each year's surface, and converted:
-to each drainage is added what a cell of the stratum has lost by then, 35 and 39 cm of stratum 0, 14 and 17 cm of stratum 1.
+const THREE_CELLS_RESTATED_ABOUT: &str = "\
+The site of three-cells.txt, its tables taken as made for the old rule, by which a drainage counted from each year's surface, and restated:
+to each drainage is added what a cell of the stratum has lost before that age, 35 and 39 cm of stratum 0, 14 and 17 cm of stratum 1.
 Each d is then what it was by the old rule, and so is each line.";
 
 const UNSORTED_ABOUT: &str = "\
