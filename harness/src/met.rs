@@ -150,7 +150,7 @@ const GROUPS: &[(&str, &[&str])] = &[
             "d above the guard",
             "of 0 mm, with a least thickness of 0",
             "losing again after a year at d 0",
-            "sunk to its deepest water so far",
+            "down to the deepest drainage level so far",
         ],
     ),
     (OPENED[0], D_AFTER_LOSSES),

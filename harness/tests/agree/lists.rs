@@ -19,7 +19,7 @@ struct ListTally<'a> {
     balances: Vec<i128>,
 }
 
-/// A cell's mark and plan year, the sums of its lines, the deepest water of the years in which it was converted, and
+/// A cell's mark and plan year, the sums of its lines, the deepest drainage level of the years in which it was converted, and
 /// whether a year found d at 0 since it lost last; in mm.
 #[derive(Clone, Default)]
 struct CellTally {
@@ -84,7 +84,7 @@ impl<'a> ListTally<'a> {
         self.balances.push(balance);
     }
 
-    /// The claim on fires, asked at each of them, and the law on the deepest water.
+    /// The claim on fires, asked at each of them, and the law on drainage levels.
     fn closed(&mut self, met: &mut Met, lines: &[u32]) {
         for fire in self.history.closed(lines) {
             let holds = self.history.guard_holds(&fire);
@@ -103,9 +103,15 @@ impl<'a> ListTally<'a> {
             cell.oxidised += oxidised;
             cell.burned += burned;
             cell.deepest = cell.deepest.max(row.map_or(0, |row| 10 * row.drainage));
-            assert!(cell.lost() <= cell.deepest, "cell {i} below its water");
+            assert!(
+                cell.lost() <= cell.deepest,
+                "cell {i} below its drainage levels"
+            );
             if oxidised + burned > 0 && cell.lost() == cell.deepest {
-                met.count("cell in a closing", "sunk to its deepest water so far");
+                met.count(
+                    "cell in a closing",
+                    "down to the deepest drainage level so far",
+                );
             }
         }
     }
