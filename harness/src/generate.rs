@@ -259,24 +259,22 @@ fn terms(random: &mut Random, size: Size) -> Vec<YearlyTerm> {
     terms
 }
 
-/// The longest listing there is, 2,815 words. Its water falls by some 16 mm a year, so that its cells
-/// still lose in late years.
+/// The longest listing there is, 2,815 words. The water of each stratum falls by 16 mm a year and its
+/// oxidation stays as it is, so that cells still lose in late years; each may burn every tenth year.
 pub fn largest() -> Site {
     let random = &mut Random(2_814);
-    let fire_every_ten_years = |random: &mut Random, at_conversion: u32, age: u32| Row {
-        drainage: at_conversion + 8 * age / 5 + random.between(0, 2),
-        oxidation: random.between(20, 60),
-        burning: if age % 10 == 1 {
-            random.between(0, 300)
-        } else {
-            0
-        },
-    };
     let tables = (0..16).map(|_| {
-        let at_conversion = random.between(40, 90);
-        let ages = 1..=100;
-        ages.map(|age| fire_every_ten_years(random, at_conversion, age))
-            .collect()
+        let [at_conversion, oxidation] = [random.between(40, 90), random.between(20, 60)];
+        let row = |age: u32| Row {
+            drainage: at_conversion + 8 * age / 5,
+            oxidation,
+            burning: if age % 10 == 1 {
+                random.between(0, 300)
+            } else {
+                0
+            },
+        };
+        (1..=100).map(row).collect()
     });
     Site {
         horizon: 100,
