@@ -1,5 +1,5 @@
--- Document 01, "A cell's year", with the drainage and the emission of document 02: what a cell loses, by the listing's figures h and c, its table's row r, and its
--- entry e in the book.
+-- Document 01, "A cell's year", with the drainage and the emission of document 02: what a cell loses, by the listing's figures h and c, its
+-- table's row r, and its entry e in the book.
 use Rattle.std.specs.Prelude.{◌≡◌, ◌⊎◌, ℕ, ◌+◌, ◌-◌, ◌*◌, ◌/◌, ◌≤◌, min, Bool, true, false, cond, ◌||◌, ltb, eqb}
 use Rattle.fields.specs.Valid.{HeadValid}
 use Rattle.fields.specs.declared.Head.{Head}
@@ -21,7 +21,7 @@ inactive h c e t = e.withdrawn || (unconverted e.plan t || ltb c.entered h.thick
 abbrev pub age : ℕ → ℕ → ℕ
 age plan t = t - plan + 1
 
--- a drainage value counts from the surface at conversion: so many mm below it the water lies
+-- a drainage value counts from the surface at conversion: 10 times it are the mm from there down to the water
 abbrev pub drainage_level : Row → ℕ
 drainage_level r = 10 * r.drainage
 
