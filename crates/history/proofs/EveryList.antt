@@ -11,8 +11,8 @@ use Rattle.opening.specs.Opening.{open_entry}
 use Rattle.ledger.specs.Calls.{open_effect, figures_of, statement_answer, Call}
 use Rattle.ledger.proofs.AdmittedCell.{cell_admitted}
 use Rattle.ledger.proofs.After.{opened_holds}
-use Rattle.history.specs.History.{State, next, run, BroughtForward, brought_forward_by_open, year_in, plan_in, sum_of, issued_in, highest, EachClosing, d_of, EveryUnconverted, EveryDrained, EveryDrainedFrom}
-use Rattle.history.specs.History.{Claims, EveryList, IsBroughtForward, EveryListFrom}
+use Rattle.history.specs.History.{State, next, run, BroughtForward, brought_forward_by_open, year_in, plan_in, sum_of, issued_in, highest, EachClosing, d_of, EveryUnconverted}
+use Rattle.history.specs.History.{Claims, EveryList, IsBroughtForward, EveryListFrom, EveryDrained, EveryDrainedFrom}
 use Rattle.book.proofs.AcceptedBook.{shaped, accepted_book}
 use Rattle.history.proofs.Invariant.{Inv, closed_lines_by_d, kept_step}
 
