@@ -9,9 +9,9 @@
  * figures, a book its state; both are arrays of 32-bit words that the caller owns. A listing whose word 2 is of kind 7,
  * its site word, states its own guard and least thickness of peat there; without it they are 400 and 300 mm. Bits 27 to
  * 23 of word 1 are the percentage of the burned carbon that is left as char. A drainage of the tables counts from the
- * surface at conversion, and what a cell has lost since is taken off; tables made for earlier releases, which counted
- * from each year's surface, must be restated (docs/GUIDE.md): no call can tell them. The library keeps nothing between
- * calls and allocates nothing.
+ * surface at conversion, and what a cell has lost since is taken off. Tables made for earlier releases, which counted
+ * from each year's surface, must be restated (docs/GUIDE.md); no call can tell which rule a table was made for. The
+ * library keeps nothing between calls and allocates nothing.
  *
  * Slices. An array is passed as a pointer and its length in elements, not bytes. Any length and any contents get an
  * answer, but the caller sees to it that
