@@ -14,7 +14,7 @@ use Rattle.ledger.proofs.After.{opened_holds}
 use Rattle.history.specs.History.{State, next, run, BroughtForward, brought_forward_by_open, year_in, plan_in, sum_of, issued_in, highest, EachClosing, d_of, EveryUnconverted}
 use Rattle.history.specs.History.{Claims, EveryList, IsBroughtForward, EveryListFrom, EveryDrained, EveryDrainedFrom}
 use Rattle.book.proofs.AcceptedBook.{shaped, accepted_book}
-use Rattle.history.proofs.Invariant.{Inv, closed_lines_by_d, kept_step}
+use Rattle.history.proofs.Invariant.{Inv, closed_lines_by_d, closed_no_lines, kept_step}
 
 -- before the first call
 kept_start : (l b : List ℕ) (s : BroughtForward) → (admitted l b).done ≡ true → IsBroughtForward l b s → Inv l s b []
@@ -66,7 +66,11 @@ every_list_from l b s admits brought calls = claims l s _ (kept_list l b s admit
 pub every_drained_from : EveryDrainedFrom
 every_drained_from l b s admits brought calls i p =
     let kept = kept_list l b s admits brought calls in
-    record { within = λ m. kept.level i m p; lines = λ x done q. closed_lines_by_d l s _ _ kept x done i p q }
+    record {
+      within = λ m. kept.level i m p;
+      lines = λ x done q. closed_lines_by_d l s _ _ kept x done i p q;
+      no_lines = λ x done q. closed_no_lines l s _ _ kept x done i p q;
+    }
 
 module _ (l b : List ℕ) (done : (open_effect l b).answer.done ≡ true) where
   holds : Holds l (open_effect l b).book 0 0 (open_entry l)

@@ -10,11 +10,12 @@ use Rattle.words.specs.Bits.{at_least_0}
 use Rattle.words.proofs.Signed.{by_test}
 use Rattle.listing.specs.Layout.{head, cells, row, cell}
 use Rattle.year.specs.declared.Entry.{Entry}
+use Rattle.year.specs.declared.Loss.{Loss}
 use Rattle.year.specs.Year.{unconverted, inactive, age, drainage_level, emission}
 use Rattle.year.specs.Year.{planned, marked}
-use Rattle.year.proofs.Laws.{active, mm_by_d, year_kg_lem, year_dry, year_level}
+use Rattle.year.proofs.Laws.{active, loss_inactive, mm_by_d, year_kg_lem, year_dry, year_level}
 use Rattle.book.specs.Current.{issued, entry, kg_to_date, admitted, Holds}
-use Rattle.book.specs.Layout.{year}
+use Rattle.book.specs.Layout.{year, oxidised_line, burned_line}
 use Rattle.balance.specs.Balance.{balance_in}
 use Rattle.balance.proofs.Bounds.{balance_same, issue_max}
 use Rattle.closing.specs.Closing.{loss}
@@ -76,6 +77,14 @@ module _ (l : List ℕ) (s : BroughtForward) (b : List ℕ) (h : History) (v : I
           burned = line.1 ∙ rw (← v.year_is, ← (v.plan_is i p), ← (v.oxidised_is i p), ← (v.burned_is i p), ← (add-one (year b)), converted) rule.0;
           oxidised = line.0 ∙ rw (line.1, ← v.year_is, ← (v.plan_is i p), ← (v.oxidised_is i p), ← (v.burned_is i p), ← (add-one (year b)), converted) rule.1;
         }
+
+    -- and those of another are 0
+    pub closed_no_lines : (i : ℕ) → i < cells l → inactive (head l) (cell l i) (entry b i) (year b + 1) ≡ true →
+        (burned_line (close_effect l b x).output i ≡ 0) × (oxidised_line (close_effect l b x).output i ≡ 0)
+    closed_no_lines i p q =
+        let none = loss_inactive (head l) (row l) (cell l i) (entry b i) (year b + 1) q in
+        let line = closed_line l b x done i p in
+        (line.1 ∙ ap (λ (s : Loss). s.burned) none, line.0 ∙ ap (λ (s : Loss). s.oxidised) none)
 
     closed_level : (i m : ℕ) → i < cells l → s.oxidised i + s.burned i ≤ m → LevelAtMost l s i m (close_effect l b x).output h → EachClosing (LevelAtMost l s i m) h →
         (oxidised_in s h i + (loss l b i).oxidised) + (burned_in s h i + (loss l b i).burned) ≤ m

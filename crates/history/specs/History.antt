@@ -180,12 +180,14 @@ pub record LinesByD (l : List ℕ) (s : BroughtForward) (i : ℕ) (x : List ℕ)
   pub oxidised : oxidised_line x i ≡
       oxidised_by (d_of l s before i) (row_of l s before i).oxidation ((cell l i).entered - (oxidised_in s before i + burned_in s before i)) (burned_line x i)
 
--- of cell i: no more was lost than down to the deepest of its drainage levels in the years of the closings, or than before the list; and where
--- the next closing is accepted and finds the cell active, its lines go by d of the claims
+-- of cell i: no more was lost than down to the deepest of its drainage levels in the years of the closings, or than before the list; and if the
+-- next closing is accepted, its mm lines go by d of the claims where the cell is active, and are 0 where it is not
 pub record DrainedClaims (l : List ℕ) (s : BroughtForward) (state : State) (i : ℕ) : Type 0 where
   pub within : (m : ℕ) → s.oxidised i + s.burned i ≤ m → EachClosing (LevelAtMost l s i m) state.history → oxidised_in s state.history i + burned_in s state.history i ≤ m
   pub lines : (x : List ℕ) → (close_effect l state.book x).answer.done ≡ true → inactive (head l) (cell l i) (entry state.book i) (year state.book + 1) ≡ false →
       LinesByD l s i (close_effect l state.book x).output state.history
+  pub no_lines : (x : List ℕ) → (close_effect l state.book x).answer.done ≡ true → inactive (head l) (cell l i) (entry state.book i) (year state.book + 1) ≡ true →
+      (burned_line (close_effect l state.book x).output i ≡ 0) × (oxidised_line (close_effect l state.book x).output i ≡ 0)
 
 -- for every listing and book that open accepts, and every list of calls on them, refused ones included; proofs/EveryList.antt proves it
 abbrev pub EveryDrained : Type 0

@@ -119,6 +119,10 @@ benchmark_after_three = 0x80000003 ∷ 0x90000117 ∷ 0xA0000001 ∷ 0xB0000087 
 abbrev pub wide : List ℕ
 wide = 0x10010102 ∷ 0x2014190C ∷ 0x32DFFD54 ∷ 0x32D0B554 ∷ 0x400107D0 ∷ 0x527101F4 ∷ []
 
+-- two years of 255 cm, of which late losses are asked
+abbrev pub deep : List ℕ
+deep = 0x10010102 ∷ 0x2014190C ∷ 0x3FF0B554 ∷ 0x3FF0B554 ∷ 0x400107D0 ∷ 0x527101F4 ∷ []
+
 -- the number and the place of a refused listing
 abbrev pub refusal : List ℕ → List ℕ
 refusal l = (checked l).number ∷ (checked l).place ∷ []
@@ -224,6 +228,9 @@ rows =
     ∷ row (loses benchmark 2000 451 0) (0 ∷ 0 ∷ [])
     ∷ row (loses wide 2000 0 0) (50 ∷ 400 ∷ [])
     ∷ row (loses wide 2000 30 0) (20 ∷ 400 ∷ [])
+    ∷ row (loses deep 20000 1200 900) (50 ∷ 45 ∷ [])
+    ∷ row (loses deep 20000 1500 1049) (0 ∷ 1 ∷ [])
+    ∷ row (loses deep 2130 1200 900) (30 ∷ 0 ∷ [])
     ∷ row (logged_test 2 1 (100 ∷ 50 ∷ 30 ∷ []) (10 ∷ 10 ∷ []) (8000 ∷ [])) (0 ∷ 0 ∷ 72 ∷ 0 ∷ [])
     ∷ row (logged_test 3 2 densities areas discounts) (0 ∷ 0 ∷ 2153 ∷ 0 ∷ [])
     ∷ row (logged_test 3 2 (zeros 8) areas discounts) (0 ∷ 0 ∷ 0 ∷ 1 ∷ [])

@@ -15,7 +15,7 @@ use Rattle.fields.specs.declared.Head.{Head}
 use Rattle.fields.specs.declared.Row.{Row}
 use Rattle.fields.specs.declared.Cell.{Cell}
 use Rattle.year.specs.Year.{unconverted, inactive, age, drainage_level, drained, remaining, burned_by, oxidised_by, burned_mm, mm_of, no_mm, year_mm, kg_of, loss_of, year_loss}
-use Rattle.year.specs.Year.{burned_weight, emission_divisor, emission, EveryEmission, no_loss, most_line, most_emission, most_loss, after_loss}
+use Rattle.year.specs.Year.{EveryReach, burned_weight, emission_divisor, emission, EveryEmission, no_loss, most_line, most_emission, most_loss, after_loss}
 use Rattle.year.specs.Limits.{WithinLimits, SameFigures}
 use Rattle.year.specs.declared.Entry.{Entry}
 use Rattle.year.specs.declared.LostMm.{LostMm}
@@ -150,6 +150,10 @@ module _ (h : Head) (c : Cell) (r : Row) (e : Entry) where
       ◌≡◌ {A = Loss} (record { oxidised = m.oxidised; burned = m.burned; kg = then - before }) (loss_of h c r e)
   unfolding loss_of
   loss_by m before then p u v = rw (v, u, p)
+
+pub every_reach : EveryReach
+unfolding mm_of burned_by oxidised_by
+every_reach = record { burned = λ h c r e p q. omega (arith, p, q); oxidised = λ h c r e p q. omega (arith, p, q) }
 
 -- ---- the most that can be lost
 module _ (h : Head) (c : Cell) where

@@ -1,6 +1,6 @@
 -- Document 01, "A cell's year", with the drainage and the emission of document 02: what a cell loses, by the listing's figures h and c, its
 -- table's row r, and its entry e in the book.
-use Rattle.std.specs.Prelude.{◌≡◌, ◌⊎◌, ℕ, ◌+◌, ◌-◌, ◌*◌, ◌/◌, ◌≤◌, min, Bool, true, false, cond, ◌||◌, ltb, eqb}
+use Rattle.std.specs.Prelude.{◌≡◌, ◌⊎◌, ℕ, ◌+◌, ◌-◌, ◌*◌, ◌/◌, ◌≤◌, ◌<◌, min, Bool, true, false, cond, ◌||◌, ltb, eqb}
 use Rattle.fields.specs.Valid.{HeadValid}
 use Rattle.fields.specs.declared.Head.{Head}
 use Rattle.fields.specs.declared.Row.{Row}
@@ -56,6 +56,15 @@ no_mm = record { oxidised = 0; burned = 0 }
 -- the mm of a cell's year t: the row is that of the cell's own stratum and of its own age
 unfoldable pub year_mm : Head → (ℕ → ℕ → Row) → Cell → Entry → ℕ → LostMm
 year_mm h rows c e t = cond (inactive h c e t) no_mm (mm_of h c (rows c.stratum (age e.plan t)) e)
+
+-- how far a year's losses reach, said without d: an active cell that has peat left, and of which less burns than its row lets it, has sunk to
+-- the guard above the water; and one of which less oxidises than its row lets it, to the water. proofs/Laws.antt proves it
+pub record EveryReach : Type 0 where
+  pub burned : (h : Head) (c : Cell) (r : Row) (e : Entry) → (mm_of h c r e).burned < r.burning → e.oxidised + e.burned + (mm_of h c r e).burned < c.entered →
+      drainage_level r ≤ e.oxidised + e.burned + (mm_of h c r e).burned + h.guard
+  pub oxidised : (h : Head) (c : Cell) (r : Row) (e : Entry) → (mm_of h c r e).oxidised < r.oxidation →
+      e.oxidised + e.burned + (mm_of h c r e).burned + (mm_of h c r e).oxidised < c.entered →
+      drainage_level r ≤ e.oxidised + e.burned + (mm_of h c r e).burned + (mm_of h c r e).oxidised
 
 -- the weight of a burned mm: 1,100,000 − 11,000 × the char percentage + 400 × G × e; that of an oxidised mm is 1,100,000
 unfoldable pub burned_weight : Head → ℕ

@@ -41,16 +41,16 @@ abbrev pub lost_after : List ℕ → ℕ → ℕ → ℕ
 lost_after l t i = (entries_after l t i).oxidised + (entries_after l t i).burned
 
 -- if it is converted by the year t + 1, its drainage level then is at most m mm
-abbrev pub LevelAtMost : List ℕ → ℕ → ℕ → ℕ → Type 0
-LevelAtMost l m t i =
+abbrev pub OwnLevelAtMost : List ℕ → ℕ → ℕ → ℕ → Type 0
+OwnLevelAtMost l m t i =
     let plan = (cell l i).conversion in
     unconverted plan (t + 1) ≡ false → drainage_level (row l (cell l i).stratum (age plan (t + 1))) ≤ m
 
 -- a cell loses no more than down to the deepest of its drainage levels so far; and in a year whose level is no deeper than what it has lost,
 -- so that d is 0, it loses nothing
 pub record WithinLevel (l : List ℕ) (t i : ℕ) : Type 0 where
-  pub within : (m : ℕ) → ((u : ℕ) → u < t → LevelAtMost l m u i) → lost_after l t i ≤ m
-  pub unchanged : LevelAtMost l (lost_after l t i) t i → loss_in l i t ≡ no_loss
+  pub within : (m : ℕ) → ((u : ℕ) → u < t → OwnLevelAtMost l m u i) → lost_after l t i ≤ m
+  pub unchanged : OwnLevelAtMost l (lost_after l t i) t i → loss_in l i t ≡ no_loss
 
 abbrev pub EveryLevel : Type 0
 EveryLevel = (l : List ℕ) (t i : ℕ) → WithinLevel l t i
