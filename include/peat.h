@@ -31,10 +31,13 @@
  *                              or + 3 with a site word
  *    4                         a later word: kind, zero bits or range                  index of the word
  *    5                         a yearly term not above the one before                  index of the later term
- *    6   every book            shorter than 2 + 3 * cells words                        length of the book
+ *    6   every book            shorter than 3 + 3 * cells words (the old book of       length of the book
+ *                              peat_convert: than 2 + 3 * cells)
  *    7   close                 lines shorter than 3 * cells words                      length of lines
  *    8   every book but those  a word of the book is invalid; a bad sum of losses      index of the word
  *        of open and forecast  counts at the word of burned mm
+ *        and the new one of
+ *        convert
  *    9   close                 the book is at the horizon                              0
  *   10   replan, withdraw,     no such cell                                            0
  *        statement
@@ -57,7 +60,8 @@
  *
  * For a pair of levels 16 is tested on both before 17. For dips 23 and 24 come before 16 and 17, and the readings are
  * tested one after the other, each for 16 and then for 17, by index, a depth before its tolerance. Each of 23, 24 and
- * the readings is tested on the first recording before the second.
+ * the readings is tested on the first recording before the second. For peat_convert 6 is tested on the old book before
+ * the new one, and both before 8, which is asked of the old book alone.
  */
 #ifndef PEAT_H
 #define PEAT_H
@@ -120,6 +124,14 @@ typedef struct {
 peat_answer peat_open(const uint32_t *listing, size_t listing_len, uint32_t *book, size_t book_len);
 
 /*
+ * Converts a book that an earlier release wrote, with one word of tonnes issued (2 + 3 * cells words), into one with two
+ * (3 + 3 * cells words): year, tonnes, marks, plan years and losses are kept. `old_book` is only read, and `new_book`
+ * may hold anything. A place of 6 is the length of the book that is too short, a place of 8 an index in `old_book`.
+ */
+peat_answer peat_convert(const uint32_t *listing, size_t listing_len, const uint32_t *old_book, size_t old_book_len,
+                         uint32_t *new_book, size_t new_book_len);
+
+/*
  * Closes the next year. Writes three words for each cell into `lines`, cell after cell: the year's oxidised mm (kind
  * 13), burned mm (kind 14) and kg CO2e (kind 15), each in bits 27 to 0. Brings the book up to that year.
  */
@@ -142,7 +154,7 @@ peat_account peat_statement(const uint32_t *listing, size_t listing_len, const u
 
 /*
  * Works out every year to the horizon, as planned in the listing. Writes each year's kg CO2e over all cells into
- * `output`, one number for each year, year 1 first. `book` is scratch, 2 + 3 * cells words, not the project's own:
+ * `output`, one number for each year, year 1 first. `book` is scratch, 3 + 3 * cells words, not the project's own:
  * whatever it holds is overwritten, and it is left as closed at the horizon, with nothing issued. Replans, withdrawals
  * and closed years of a project are not in it. total: the kg CO2e to date of all cells then, which is what all years'
  * numbers add up to. It may pass 32 bits.

@@ -92,6 +92,8 @@ type Logged = fn(u32, u32, &[u32], &[u32], &[u32]) -> LoggedAnswer;
 /// The calls of one implementation, so that tests can run either in the same way.
 pub struct Ledger {
     pub open: fn(&[u32], &mut [u32]) -> Answer,
+    /// The old book, then the new one.
+    pub convert: fn(&[u32], &[u32], &mut [u32]) -> Answer,
     pub close: fn(&[u32], &mut [u32], &mut [u32]) -> Answer,
     pub replan: fn(&[u32], &mut [u32], usize, u32) -> Answer,
     pub withdraw: fn(&[u32], &mut [u32], usize) -> Answer,
@@ -106,6 +108,7 @@ pub struct Ledger {
 
 pub const PROVED: Ledger = Ledger {
     open: proved::open,
+    convert: proved::convert,
     close: proved::close,
     replan: proved::replan,
     withdraw: proved::withdraw,
@@ -120,6 +123,7 @@ pub const PROVED: Ledger = Ledger {
 
 pub const REFERENCE: Ledger = Ledger {
     open: reference::open,
+    convert: reference::convert,
     close: reference::close,
     replan: reference::replan,
     withdraw: reference::withdraw,

@@ -12,6 +12,14 @@ pub mod sys {
             book: *mut u32,
             book_len: usize,
         ) -> Answer;
+        pub fn peat_convert(
+            listing: *const u32,
+            listing_len: usize,
+            old_book: *const u32,
+            old_book_len: usize,
+            new_book: *mut u32,
+            new_book_len: usize,
+        ) -> Answer;
         pub fn peat_close(
             listing: *const u32,
             listing_len: usize,
@@ -104,6 +112,20 @@ pub fn open(listing: &[u32], book: &mut [u32]) -> Answer {
             listing.len(),
             book.as_mut_ptr(),
             book.len(),
+        )
+    }
+}
+
+pub fn convert(listing: &[u32], old_book: &[u32], new_book: &mut [u32]) -> Answer {
+    // SAFETY: as in `open`, with a third slice that is only read.
+    unsafe {
+        sys::peat_convert(
+            listing.as_ptr(),
+            listing.len(),
+            old_book.as_ptr(),
+            old_book.len(),
+            new_book.as_mut_ptr(),
+            new_book.len(),
         )
     }
 }

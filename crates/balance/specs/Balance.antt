@@ -14,7 +14,7 @@ use Rattle.book.specs.Layout.{year}
 unfoldable pub peat_tonnes : List ℕ → (ℕ → ℕ) → ℕ
 peat_tonnes l kg = sum_below kg (cells l) / 1000
 
--- the most peat tonnes that a listing's cells can have, 208,896,000
+-- the most peat tonnes that a listing's cells can have, 816,000,000
 abbrev pub most_peat : ℕ
 most_peat = most_emission * most_cells / 1000
 
@@ -33,13 +33,13 @@ balance_of l t peat = to_date l t peat 8 -ℤ pos (withheld (head l).buffer (to_
 abbrev pub balance : List ℕ → ℕ → (ℕ → ℕ) → ℤ
 balance l t kg = balance_of l t (peat_tonnes l kg)
 
--- the greatest balance, 254,770,500
+-- the greatest balance, 861,874,500
 abbrev pub most_balance : ℕ
 most_balance = most_peat + most_term_sum
 
 -- no number of tonnes on the way to a balance is larger than this, above or below zero
 abbrev pub most_tonnes : ℕ
-most_tonnes = 2 ^ 30
+most_tonnes = 2 ^ 31
 
 -- an issue answers balance − issued, or 0 if that is negative
 unfoldable pub due : ℤ → ℕ → ℕ

@@ -20,7 +20,7 @@ use Rattle.year.specs.Year.{most_loss}
 use Rattle.year.specs.Limits.{WithinLimits}
 use Rattle.year.specs.declared.Entry.{Entry}
 use Rattle.year.proofs.Laws.{most_entered}
-use Rattle.book.specs.Layout.{Sized, Shaped, year_at, entry_at, issued_at, issued_words, payload, plan_of, joined, year, issued, entry_of, words_of}
+use Rattle.book.specs.Layout.{Sized, Shaped, issued_in_one_word, year_at, entry_at, issued_at, issued_words, payload, plan_of, joined, year, issued, entry_of, words_of}
 use Rattle.book.specs.Current.{current}
 use Rattle.book.specs.Check.{is_year_word, is_plan_word, is_burned_word, is_head_word, entry_word_valid, capacity_checked, fitted, book_checked, admitted}
 use Rattle.book.specs.AcceptedBook.{Fitted, CellInBook, All, WordsValid, EntryValid, CellWordsValid, AcceptedBook}
@@ -35,8 +35,11 @@ use Rattle.book.proofs.Valid.{checked_valid}
 pub head_shaped : (n : ℕ) → 2 ≤ n → n ≤ 3 → Shaped (record { head = n; entry = 3 })
 head_shaped n least most = record { head = (least, most); entry = record { least = omega arith; most = omega arith } }
 
+pub one_word_shaped : Shaped issued_in_one_word
+one_word_shaped = head_shaped 2 (omega arith) (omega arith)
+
 pub shaped : Shaped current
-shaped = head_shaped 2 (omega arith) (omega arith)
+shaped = head_shaped 3 (omega arith) (omega arith)
 
 -- what holds at each size of a cell
 pub by_size : (P : ℕ → Type 0) (n : ℕ) → Sized n → P 3 → P n

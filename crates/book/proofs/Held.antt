@@ -1,9 +1,11 @@
 -- A cell's words as they are written: they give the entry and the kg back, and they are valid. Assumes nothing.
 use mathlib.Core.Path.{◌≡◌, refl}
 use mathlib.Core.List.{List}
-use Prim.Native.Nat.{ℕ, ◌<◌}
+use Prim.Native.Nat.{ℕ, ◌+◌, ◌-◌, ◌<◌}
 use native.Mathlib.Omega.{arith}
-use lib.ListN.{length}
+use lib.ListN.{length, take, drop}
+use borrow.Rule.Slice.PartMut.{put_mid}
+use Rattle.words.proofs.Blocks.{Filling, filling_lent_length, filling_next}
 use Rattle.fields.specs.Valid.{HeadValid, CellValid}
 use Rattle.fields.specs.declared.Head.{Head}
 use Rattle.fields.specs.declared.Cell.{Cell}
@@ -12,7 +14,7 @@ use Rattle.listing.specs.Accepted.{Accepted}
 use Rattle.year.specs.Year.{most_loss}
 use Rattle.year.specs.declared.Entry.{Entry}
 use Rattle.year.proofs.Laws.{most_entered}
-use Rattle.book.specs.Layout.{oxidised_kind, burned_kind, Sized, Shaped, entry_of, held_words}
+use Rattle.book.specs.Layout.{oxidised_kind, burned_kind, Sized, Shaped, entry_at, entry_of, held_words}
 use Rattle.book.specs.Check.{entry_word_valid}
 use Rattle.book.specs.Held.{held_at}
 use Rattle.book.specs.AcceptedBook.{All, Storable, EntryValid}
@@ -69,3 +71,18 @@ module _ (s : Shape) (g : Shaped s) (e : ℕ → Entry) where
 
     pub held_at_entry : (i : ℕ) → i < cells l → entry_of (held_at s e i) ≡ e i
     held_at_entry i lt = held_entry s.entry g.entry (e i) (valid_storable a.head_valid (a.cell_valid i lt) (e i) (valid i lt))
+
+-- ---- a walk that writes the cells of a book one after the other: in the iteration of cell i, y is the book as it is now, and the cell's words
+-- begin at a
+
+module _ {s : Shape} (g : Shaped s) (e : ℕ → Entry) {b : List ℕ} {n i : ℕ} {y : List ℕ} (r : Filling s.entry b s.head (held_at s e) n i y) (lt : i < n) {a : ℕ} (here : a ≡ entry_at s i) where
+  lent_sized : length (take (a + s.entry - a) (drop a y)) ≡ s.entry
+  lent_sized = filling_lent_length r lt a here
+
+  -- x is the entry that is written
+  module _ {x : Entry} (x_is : x ≡ e i) where
+    pub put_allowed : Storable (e i) → Sized (length (take (a + s.entry - a) (drop a y))) × Storable x
+    put_allowed fits = (rw lent_sized g.entry, rw x_is fits)
+
+    pub put_next : {ws : List ℕ} → ws ≡ held_words (length (take (a + s.entry - a) (drop a y))) x → Filling s.entry b s.head (held_at s e) n (i + 1) (put_mid a (a + s.entry - a) y ws)
+    put_next ws_is = filling_next r lt a here (rw (lent_sized, x_is) at ws_is)

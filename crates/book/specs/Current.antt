@@ -3,14 +3,15 @@ use Rattle.std.specs.Prelude.{ℕ, List}
 use Rattle.words.specs.Answers.{Answer}
 use Rattle.year.specs.declared.Entry.{Entry}
 use Rattle.book.specs.Layout as layout
+use Rattle.book.specs.Layout.{issued_in_two_words}
 use Rattle.book.specs.Check as check
 use Rattle.book.specs.Held as held
 use Rattle.book.specs.AcceptedBook as accepted_book
 use Rattle.book.specs.declared.Shape.{Shape}
 
--- a head of 2 words, and 3 words for each cell: number 6 asks for 2 + 3 × cells words
+-- number 6 asks for 3 + 3 × cells words
 abbrev pub current : Shape
-current = record { head = 2; entry = 3 }
+current = issued_in_two_words
 
 -- where cell i begins, and how many words a book of n cells needs
 abbrev pub entry_at : ℕ → ℕ

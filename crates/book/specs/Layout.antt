@@ -18,6 +18,14 @@ pub record Shaped (s : Shape) : Type 0 where
   pub head : (2 ≤ s.head) × (s.head ≤ 3)
   pub entry : Sized s.entry
 
+-- document 02: issued tonnes no longer fit one word; a book of the old shape, a head of 2 words and 3 words for each cell, is converted
+abbrev pub issued_in_one_word : Shape
+issued_in_one_word = record { head = 2; entry = 3 }
+
+-- into one with two words of tonnes: a head of 3 words, and cells start one word later
+abbrev pub issued_in_two_words : Shape
+issued_in_two_words = record { head = 3; entry = 3 }
+
 -- where cell i begins, and how many words a book of n cells needs
 abbrev pub entry_at : Shape → ℕ → ℕ
 entry_at s i = s.head + s.entry * i

@@ -30,8 +30,14 @@ pub struct Shape {
     pub entry: usize,
 }
 
-// The book that the calls take: a head of 2 words, and 3 words for each cell.
-pub const BOOK: Shape = Shape { head: 2, entry: 3 };
+// The old shape: one word of tonnes issued, so a head of 2 words; 3 words for each cell.
+pub const ISSUED_IN_ONE_WORD: Shape = Shape { head: 2, entry: 3 };
+
+// Two words of tonnes issued, so a head of 3 words.
+pub const ISSUED_IN_TWO_WORDS: Shape = Shape { head: 3, entry: 3 };
+
+// The book that the calls take.
+pub const BOOK: Shape = ISSUED_IN_TWO_WORDS;
 
 // The words of a cell in the lines of a closing.
 pub const LINE_WORDS: usize = 3;

@@ -11,11 +11,13 @@ use Rattle.words.specs.Answers.{Answer, accepted, refused, need, need_none, afte
 use Rattle.words.proofs.Answers.{need_either, need_none_either, after_either}
 use Rattle.listing.specs.Check.{checked}
 use Rattle.listing.proofs.Numbers.{checked_either}
-use Rattle.book.specs.Current.{fitted, book_checked, admitted}
-use Rattle.book.specs.Check.{capacity_checked}
-use Rattle.book.specs.Check as check
+use Rattle.book.specs.Layout.{issued_in_one_word}
+use Rattle.book.specs.Current.{current}
+use Rattle.book.specs.Check.{capacity_checked, fitted, book_checked, admitted}
+use Rattle.book.specs.declared.Shape.{Shape}
 use Rattle.closing.specs.Closing.{lines_checked, year_checked, close_answer}
-use Rattle.ledger.specs.Calls.{open_effect, close_effect, cell_checked, admitted_cell, mark_checked, admitted_unwithdrawn, plan_checked, replan_answer, replan_effect}
+use Rattle.converting.specs.Converting.{convert_answer}
+use Rattle.ledger.specs.Calls.{open_effect, convert_effect, close_effect, cell_checked, admitted_cell, mark_checked, admitted_unwithdrawn, plan_checked, replan_answer, replan_effect}
 use Rattle.ledger.specs.Calls.{withdraw_effect, issue_answer, issue_effect, statement_answer}
 use Rattle.forecast.specs.Forecast.{output_checked, forecast_checked, forecast_answer, forecast_effect}
 use Rattle.reading.specs.Depth.{core, levels, depth}
@@ -48,21 +50,26 @@ then = after_either Numbered
 listing_numbered : (l : List ℕ) → Numbered (checked l)
 listing_numbered = checked_either Numbered (λ n k low _. refusal n k low) (none 0)
 
-fitted_numbered : (l b : List ℕ) → Numbered (fitted l b)
-unfolding check.fitted capacity_checked
-fitted_numbered l b = then _ _ (listing_numbered l) (needed _ 6 _ _ (omega arith) (none _))
+module _ (s : Shape) (l b : List ℕ) where
+  capacity_numbered : Numbered (capacity_checked s l b)
+  unfolding capacity_checked
+  capacity_numbered = needed _ 6 _ _ (omega arith) (none _)
 
-book_numbered : (l b : List ℕ) → Numbered (book_checked l b)
-unfolding check.book_checked
-book_numbered l b = searched 8 _ _ _ (omega arith) (none _)
+  fitted_numbered : Numbered (fitted s l b)
+  unfolding fitted
+  fitted_numbered = then _ _ (listing_numbered l) capacity_numbered
 
-admitted_numbered : (l b : List ℕ) → Numbered (admitted l b)
-unfolding check.admitted
-admitted_numbered l b = then _ _ (fitted_numbered l b) (book_numbered l b)
+  book_numbered : Numbered (book_checked s l b)
+  unfolding book_checked
+  book_numbered = searched 8 _ _ _ (omega arith) (none _)
+
+  admitted_numbered : Numbered (admitted s l b)
+  unfolding admitted
+  admitted_numbered = then _ _ fitted_numbered book_numbered
 
 admitted_cell_numbered : (l b : List ℕ) (i : ℕ) → Numbered (admitted_cell l b i)
 unfolding admitted_cell cell_checked
-admitted_cell_numbered l b i = then _ _ (admitted_numbered l b) (needed _ 10 _ _ (omega arith) (none _))
+admitted_cell_numbered l b i = then _ _ (admitted_numbered current l b) (needed _ 10 _ _ (omega arith) (none _))
 
 unwithdrawn_numbered : (l b : List ℕ) (i : ℕ) → Numbered (admitted_unwithdrawn l b i)
 unfolding admitted_unwithdrawn mark_checked
@@ -90,19 +97,20 @@ readings_numbered r k (suc n) =
     then _ _ (then _ _ (reading_numbered k d.depth) (reading_numbered k d.tolerance)) (readings_numbered r (suc k) n)
 
 pub every_number : EveryNumber
-unfolding open_effect close_effect close_answer lines_checked year_checked replan_effect replan_answer plan_checked withdraw_effect issue_effect issue_answer statement_answer
+unfolding open_effect convert_effect convert_answer close_effect close_answer lines_checked year_checked replan_effect replan_answer plan_checked withdraw_effect issue_effect issue_answer statement_answer
     forecast_effect forecast_answer forecast_checked output_checked discount logged tables_checked dips dips_checked
 every_number =
     record {
-      of_open = fitted_numbered;
+      of_open = fitted_numbered current;
+      of_convert = λ l old new. then _ _ (fitted_numbered issued_in_one_word l old) (then _ _ (capacity_numbered current l new) (book_numbered issued_in_one_word l old));
       of_close =
-          λ l b x. then _ _ (fitted_numbered l b)
-          (then _ _ (needed _ 7 _ _ (omega arith) (none _)) (then _ _ (book_numbered l b) (needed _ 9 _ _ (omega arith) (searched 14 _ _ _ (omega arith) (none _)))));
+          λ l b x. then _ _ (fitted_numbered current l b)
+          (then _ _ (needed _ 7 _ _ (omega arith) (none _)) (then _ _ (book_numbered current l b) (needed _ 9 _ _ (omega arith) (searched 14 _ _ _ (omega arith) (none _)))));
       of_replan = λ l b i y. then _ _ (unwithdrawn_numbered l b i) (needed _ 12 _ _ (omega arith) (needed _ 13 _ _ (omega arith) (none _)));
       of_withdraw = unwithdrawn_numbered;
-      of_issue = λ l b. then _ _ (admitted_numbered l b) (none _);
+      of_issue = λ l b. then _ _ (admitted_numbered current l b) (none _);
       of_statement = admitted_cell_numbered;
-      of_forecast = λ l b x. then _ _ (then _ _ (fitted_numbered l b) (needed _ 15 _ _ (omega arith) (none _))) (none _);
+      of_forecast = λ l b x. then _ _ (then _ _ (fitted_numbered current l b) (needed _ 15 _ _ (omega arith) (none _))) (none _);
       of_depth = depth_numbered;
       of_discount = λ a b c d. needed _ 19 _ _ (omega arith) (needed _ 20 _ _ (omega arith) (needed _ 20 _ _ (omega arith) (needed _ 20 _ _ (omega arith) (needed _ 20 _ _ (omega arith) (none _)))));
       of_logged = λ T n a b c. needed _ 21 _ _ (omega arith) (needed _ 22 _ _ (omega arith) (needed _ 22 _ _ (omega arith) (needed _ 22 _ _ (omega arith) (none _))));

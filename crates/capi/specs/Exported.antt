@@ -2,7 +2,7 @@
 use Rattle.std.specs.Prelude.{◌≡◌, List, ℕ, eqb}
 use Rattle.std.specs.Option.{is_some, unwrap_or}
 use Rattle.words.specs.Answers.{Answer, AnswerWith}
-use Rattle.ledger.specs.Calls.{open_effect, close_effect, replan_effect, withdraw_effect, issue_effect, statement_answer}
+use Rattle.ledger.specs.Calls.{open_effect, convert_effect, close_effect, replan_effect, withdraw_effect, issue_effect, statement_answer}
 use Rattle.ledger.specs.declared.CellFigures.{CellFigures}
 use Rattle.forecast.specs.Forecast.{forecast_effect}
 use Rattle.reading.specs.Depth.{depth}
@@ -67,6 +67,7 @@ pub record Numbered (a : Answer) : Type 0 where
 -- every call answers so, whatever it is lent
 pub record EveryNumber : Type 0 where
   pub of_open : (l b : List ℕ) → Numbered (open_effect l b).answer
+  pub of_convert : (l old new : List ℕ) → Numbered (convert_effect l old new).answer
   pub of_close : (l b x : List ℕ) → Numbered (close_effect l b x).answer
   pub of_replan : (l b : List ℕ) (i y : ℕ) → Numbered (replan_effect l b i y).answer
   pub of_withdraw : (l b : List ℕ) (i : ℕ) → Numbered (withdraw_effect l b i).answer

@@ -4,7 +4,7 @@
 
 ghost use Rattle.std.specs.Prelude.{◌≡◌};
 ghost use Rattle.words.specs.Answers.{accepted, refused, outcome, amount, answer_with};
-ghost use Rattle.ledger.specs.Calls.{open_effect, close_effect, replan_effect, withdraw_effect, issue_effect, no_figures, statement_answer};
+ghost use Rattle.ledger.specs.Calls.{open_effect, convert_effect, close_effect, replan_effect, withdraw_effect, issue_effect, no_figures, statement_answer};
 ghost use Rattle.forecast.specs.Forecast.{forecast_effect};
 ghost use Rattle.reading.specs.Depth.{depth};
 ghost use Rattle.reading.specs.declared.Reading.TheVariants.{Core, Levels, Missing};
@@ -213,6 +213,15 @@ pub extern "C" fn peat_open(listing: &[u32], book: &mut [u32]) -> Answer
     ensures new_book { book.new ≡ (open_effect listing.now book.old).book }
 {
     Answer::from(ledger::open(listing, book))
+}
+
+// The place of a refusal by 6 is the length of the book that it is of, and of a refusal by 8 one in the old book.
+#[unsafe(no_mangle)]
+pub extern "C" fn peat_convert(listing: &[u32], old: &[u32], new: &mut [u32]) -> Answer
+    ensures value { result ≡ exported (convert_effect listing.now old.now new.old).answer }
+    ensures new_book { new.new ≡ (convert_effect listing.now old.now new.old).book }
+{
+    Answer::from(ledger::convert(listing, old, new))
 }
 
 #[unsafe(no_mangle)]

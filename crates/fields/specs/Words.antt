@@ -7,7 +7,7 @@ use Rattle.fields.specs.declared.Head.{Head}
 
 -- the limits of word 0
 abbrev pub most_cells : ℕ
-most_cells = 256
+most_cells = 1000
 
 abbrev pub most_strata : ℕ
 most_strata = 16
@@ -56,7 +56,7 @@ most_term_tonnes_below = 65536
 abbrev pub year_terms : ℕ
 year_terms = 7
 
--- word 0: 1–256 cells, 1–16 strata, a horizon of 1–100 years
+-- word 0: 1–1,000 cells, 1–16 strata, a horizon of 1–100 years
 unfoldable pub is_size_word : ℕ → Bool
 is_size_word w = is_kind 1 w && within 1 most_cells (cells_of w) && within 1 most_strata (strata_of w) && within 1 most_horizon (horizon_of w)
 

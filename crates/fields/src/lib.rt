@@ -10,7 +10,7 @@ ghost use Rattle.fields.specs.Valid.{term_order};
 use words::{Field, Kind};
 
 // The limits of word 0.
-pub const MOST_CELLS: u32 = 256;
+pub const MOST_CELLS: u32 = 1000;
 
 pub const MOST_STRATA: u32 = 16;
 

@@ -5,11 +5,10 @@ use mathlib.Core.List.{List, [], ◌∷◌}
 use Prim.Native.Nat.{ℕ, ◌+◌, ◌-◌, ◌^◌, ◌≤◌, ◌<◌}
 use native.Mathlib.Nat.{le_antisymm}
 use native.Mathlib.Omega.{arith}
-use lib.ListN.{length, get_or, set, take, drop, replicate, length-set, length-replicate}
-use borrow.Rule.Slice.PartMut.{put_mid}
+use lib.ListN.{length, get_or, set, replicate, length-set, length-replicate}
 use Rattle.std.proofs.lemmas.List.{get_or-set_same, get_or-set_other, get_or-replicate}
 use Rattle.words.specs.Sums.{sum_below}
-use Rattle.words.proofs.Blocks.{Filling, filling_none, filling_lent_length, filling_next, filling_stored, filling_all}
+use Rattle.words.proofs.Blocks.{Filling, filling_none, filling_stored, filling_all}
 use Rattle.words.proofs.Signed.{by_equal}
 use Rattle.words.proofs.Sums.{sum_none, sum_next}
 use Rattle.fields.specs.Words.{most_cells}
@@ -23,14 +22,10 @@ use Rattle.year.specs.Limits.{WithinLimits}
 use Rattle.year.specs.declared.LostMm.{LostMm}
 use Rattle.year.specs.declared.Entry.{Entry}
 use Rattle.year.proofs.Laws.{emission_none, mm_inactive, mm_active}
-use Rattle.book.specs.Current.{current, entry_at, held_at, Fitted}
-use Rattle.book.specs.Layout.{Sized, held_words}
-use Rattle.book.specs.AcceptedBook.{Storable}
-use Rattle.book.proofs.AcceptedBook.{shaped}
 use Rattle.closing.specs.Closable.{CellYear}
 use Rattle.closing.proofs.Closable.{cell_year_valid, cell_year_fit}
 use Rattle.years.specs.Years.{entries_after}
-use Rattle.years.proofs.After.{after_plan, after_next, after_valid, after_storable}
+use Rattle.years.proofs.After.{after_plan, after_next, after_valid}
 use Rattle.forecast.specs.declared.CellToDate.{CellToDate}
 use Rattle.forecast.specs.Running.{entry_to_date, cell_to_date, next_cell, cell_after, total_after, output_of, CellsAfter}
 use Rattle.forecast.proofs.Running.{total_none, total_grows, total_fits}
@@ -207,22 +202,6 @@ years_all r le = let all = le_antisymm r.output.at_most le in (rw all at r.total
 
 -- ---- the book, written once
 
-module _ {l b : List ℕ} (fitted : Fitted l b) where
-  abbrev held : ℕ → List ℕ
-  held = held_at (entries_after l (horizon l))
-
-  -- the iteration of cell i: y is the book as it is now, a is where its words begin, and c the cell that was read
-  module _ {i : ℕ} {y : List ℕ} (r : Filling current.entry b current.head held (cells l) i y) (lt : i < cells l) {a : ℕ} (here : a ≡ entry_at i)
-      {c : CellToDate} (c_is : c ≡ cell_after l (horizon l) i) {e : Entry} (e_is : e ≡ entry_to_date c) where
-    held_entry : e ≡ entries_after l (horizon l) i
-    held_entry = (rw c_is at e_is) ∙ entry_after l (horizon l) i
-
-    lent : length (take (a + current.entry - a) (drop a y)) ≡ current.entry
-    lent = filling_lent_length r lt a here
-
-    pub put_storable : Sized (length (take (a + current.entry - a) (drop a y))) × Storable e
-    put_storable = (rw lent shaped.entry, rw held_entry (after_storable fitted.accepted i lt (horizon l)))
-
-    pub put_next : {ws : List ℕ} → ws ≡ held_words (length (take (a + current.entry - a) (drop a y))) e →
-        Filling current.entry b current.head held (cells l) (i + 1) (put_mid a (a + current.entry - a) y ws)
-    put_next ws_is = filling_next r lt a here (rw (lent, held_entry) at ws_is)
+-- the entry that is written of cell i: c is the cell that was read
+pub held_entry : (l : List ℕ) (i : ℕ) {c : CellToDate} → c ≡ cell_after l (horizon l) i → {e : Entry} → e ≡ entry_to_date c → e ≡ entries_after l (horizon l) i
+held_entry l i c_is e_is = (rw c_is at e_is) ∙ entry_after l (horizon l) i

@@ -6,12 +6,11 @@ use Prim.Native.Nat.{ℕ}
 use native.Mathlib.Omega.{arith}
 use Rattle.listing.specs.Layout.{head, cell}
 use Rattle.year.proofs.Laws.{emission_none}
-use Rattle.book.specs.Current.{current, admitted, Holds}
-use Rattle.opening.specs.Opening.{open_entry}
-use Rattle.ledger.specs.Calls.{open_effect, figures_of, statement_answer, Call}
+use Rattle.book.specs.Current.{current, admitted}
+use Rattle.ledger.specs.Calls.{figures_of, statement_answer, Start, Open, Convert, start_effect, Call}
 use Rattle.ledger.proofs.AdmittedCell.{cell_admitted}
-use Rattle.ledger.proofs.After.{opened_holds}
-use Rattle.history.specs.History.{State, next, run, BroughtForward, brought_forward_by_open, year_in, plan_in, sum_of, issued_in, highest, EachClosing, d_of, EveryUnconverted}
+use Rattle.ledger.proofs.After.{opened_holds, every_conversion, start_admits}
+use Rattle.history.specs.History.{State, next, run, BroughtForward, brought_forward, year_in, plan_in, sum_of, issued_in, highest, EachClosing, d_of, EveryUnconverted}
 use Rattle.history.specs.History.{Claims, EveryList, IsBroughtForward, EveryListFrom, EveryDrained, EveryDrainedFrom}
 use Rattle.book.proofs.AcceptedBook.{shaped, accepted_book}
 use Rattle.history.proofs.Invariant.{Inv, closed_lines_by_d, closed_no_lines, kept_step}
@@ -72,27 +71,35 @@ every_drained_from l b s admits brought calls i p =
       no_lines = λ x done q. closed_no_lines l s _ _ kept x done i p q;
     }
 
-module _ (l b : List ℕ) (done : (open_effect l b).answer.done ≡ true) where
-  holds : Holds l (open_effect l b).book 0 0 (open_entry l)
-  holds = opened_holds l b done
+-- ---- what an accepted start brings, the book that it wrote says
 
-  -- an opened book brings nothing forward, and the listing's plan years
-  brings_nothing : IsBroughtForward l (open_effect l b).book (brought_forward_by_open l)
-  brings_nothing =
-      record {
-        year_is = holds.year_is;
-        issued_is = holds.issued_is;
-        plan_is = λ i p. rw (holds.entry_is i p);
-        oxidised_is = λ i p. rw (holds.entry_is i p);
-        burned_is = λ i p. rw (holds.entry_is i p);
-        kg_is = λ i p. sym (emission_none (head l) (cell l i));
-      }
+start_brings : (l : List ℕ) (from : Start) → (start_effect l from).answer.done ≡ true → IsBroughtForward l (start_effect l from).book (brought_forward l from)
+start_brings l (Open b) done =
+    let holds = opened_holds l b done in
+    record {
+      year_is = holds.year_is;
+      issued_is = holds.issued_is;
+      plan_is = λ i p. rw (holds.entry_is i p);
+      oxidised_is = λ i p. rw (holds.entry_is i p);
+      burned_is = λ i p. rw (holds.entry_is i p);
+      kg_is = λ i p. sym (emission_none (head l) (cell l i));
+    }
+start_brings l (Convert old new) done =
+    let holds = every_conversion l old new done in
+    record {
+      year_is = holds.year_is;
+      issued_is = holds.issued_is;
+      plan_is = λ i p. rw (holds.entry_is i p);
+      oxidised_is = λ i p. rw (holds.entry_is i p);
+      burned_is = λ i p. rw (holds.entry_is i p);
+      kg_is = λ i p. refl;
+    }
 
 pub every_list : EveryList
-every_list l b done = every_list_from l (open_effect l b).book (brought_forward_by_open l) (holds l b done).admits (brings_nothing l b done)
+every_list l from done = every_list_from l (start_effect l from).book (brought_forward l from) (start_admits l from done) (start_brings l from done)
 
 pub every_drained : EveryDrained
-every_drained l b done = every_drained_from l (open_effect l b).book (brought_forward_by_open l) (holds l b done).admits (brings_nothing l b done)
+every_drained l from done = every_drained_from l (start_effect l from).book (brought_forward l from) (start_admits l from done) (start_brings l from done)
 
 -- and d of a cell that is not converted
 pub every_unconverted : EveryUnconverted

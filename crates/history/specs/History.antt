@@ -1,6 +1,6 @@
--- Document 01, "Lists of calls", with the drainage of document 02: what holds after every list of calls on one listing l and its book. The
--- figures of the claims are read off the listing and off what the calls gave, and not off the book. `EveryList`, towards the end, is the
--- theorem; proofs/EveryList.antt proves it.
+-- Document 01, "Lists of calls", with the drainage and the conversion of document 02: what holds after every list of calls on one listing l and its
+-- book. The figures of the claims are read off the listing, off what a converted book brings, and off what the calls gave, and not off the book.
+-- `EveryList`, towards the end, is the theorem; proofs/EveryList.antt proves it.
 use Rattle.std.specs.Prelude.{◌≡◌, true, cond, List, [], ◌∷◌, ℕ, suc, ◌+◌, ◌-◌, ◌≤◌, ◌<◌, max, eqb, false, ℤ}
 use Rattle.words.specs.Bits.{at_least_0}
 use Rattle.words.specs.Effect.{Effect}
@@ -8,9 +8,10 @@ use Rattle.fields.specs.declared.Row.{Row}
 use Rattle.listing.specs.Layout.{head, cells, guard, row, cell}
 use Rattle.year.specs.Year.{unconverted, inactive, age, drainage_level, drained, burned_by, oxidised_by, emission}
 use Rattle.book.specs.Current.{issued, entry, admitted}
-use Rattle.book.specs.Layout.{year, oxidised_line, burned_line, kg_line}
+use Rattle.book.specs.Layout as layout
+use Rattle.book.specs.Layout.{issued_in_one_word, year, oxidised_line, burned_line, kg_line}
 use Rattle.balance.specs.Balance.{balance}
-use Rattle.ledger.specs.Calls.{open_effect, close_effect, statement_answer, Call, Close, Replan, Withdraw, Issue, call_effect}
+use Rattle.ledger.specs.Calls.{close_effect, statement_answer, Start, Open, Convert, start_effect, Call, Close, Replan, Withdraw, Issue, call_effect}
 
 -- ---- a list of calls
 
@@ -64,9 +65,31 @@ pub record BroughtForward : Type 0 where
   pub burned : ℕ → ℕ
   pub kg : ℕ → ℕ
 
--- nothing, and the plan years are the listing's
+-- by an open nothing, and the plan years are the listing's
 abbrev pub brought_forward_by_open : List ℕ → BroughtForward
 brought_forward_by_open l = record { year = 0; issued = 0; plan = λ i. (cell l i).conversion; oxidised = λ i. 0; burned = λ i. 0; kg = λ i. 0 }
+
+-- by a conversion what the old book says: its O, B and their emission as lines, its tonnes as an issue, its year as that many accepted closings;
+-- its plan years stand in for the listing's
+abbrev pub brought_forward_by_conversion : List ℕ → List ℕ → BroughtForward
+brought_forward_by_conversion l old =
+    let entry = layout.entry issued_in_one_word old in
+    record {
+      year = year old;
+      issued = layout.issued issued_in_one_word old;
+      plan = λ i. (entry i).plan;
+      oxidised = λ i. (entry i).oxidised;
+      burned = λ i. (entry i).burned;
+      kg = λ i. emission (head l) (cell l i) (entry i).oxidised (entry i).burned;
+    }
+
+abbrev pub brought_forward : List ℕ → Start → BroughtForward
+brought_forward l (Open b) = brought_forward_by_open l
+brought_forward l (Convert old new) = brought_forward_by_conversion l old
+
+-- before the first call
+abbrev pub started : List ℕ → Start → State
+started l from = record { book = (start_effect l from).book; history = [] }
 
 -- ---- the figures of a history
 
@@ -115,7 +138,7 @@ issued_in s (Nothing ∷ h) = issued_in s h
 abbrev pub balance_at : List ℕ → BroughtForward → History → ℤ
 balance_at l s h = balance l (year_in s h) (kg_in s h)
 
--- the highest balance met at an accepted issue, or the tonnes counted before the list (0) if none was above them
+-- the highest balance met at an accepted issue; the tonnes counted before the list count as one
 unfoldable pub highest : List ℕ → BroughtForward → History → ℕ
 highest l s [] = s.issued
 highest l s (Lines x ∷ h) = highest l s h
@@ -163,9 +186,10 @@ pub record Claims (l : List ℕ) (s : BroughtForward) (state : State) : Type 0 w
   pub each : (i : ℕ) → i < cells l → CellClaims l s state i
   pub issues : issued_in s state.history ≡ highest l s state.history
 
--- THE THEOREM: for every listing and book that open accepts, and every list of calls on them, refused ones included
+-- THE THEOREM: for every listing and book that an open accepts, or an old book and a new one that a conversion accepts, and every list of calls on
+-- the listing and what was written, refused ones included
 abbrev pub EveryList : Type 0
-EveryList = (l b : List ℕ) → (open_effect l b).answer.done ≡ true → (calls : List Call) → Claims l (brought_forward_by_open l) (run l (record { book = (open_effect l b).book; history = [] }) calls)
+EveryList = (l : List ℕ) (from : Start) → (start_effect l from).answer.done ≡ true → (calls : List Call) → Claims l (brought_forward l from) (run l (started l from) calls)
 
 -- ---- beside the claims: what was drained
 
@@ -189,11 +213,11 @@ pub record DrainedClaims (l : List ℕ) (s : BroughtForward) (state : State) (i 
   pub no_lines : (x : List ℕ) → (close_effect l state.book x).answer.done ≡ true → inactive (head l) (cell l i) (entry state.book i) (year state.book + 1) ≡ true →
       (burned_line (close_effect l state.book x).output i ≡ 0) × (oxidised_line (close_effect l state.book x).output i ≡ 0)
 
--- for every listing and book that open accepts, and every list of calls on them, refused ones included; proofs/EveryList.antt proves it
+-- for every start that is accepted, and every list of calls, refused ones included; proofs/EveryList.antt proves it
 abbrev pub EveryDrained : Type 0
 EveryDrained =
-    (l b : List ℕ) → (open_effect l b).answer.done ≡ true → (calls : List Call) → (i : ℕ) → i < cells l →
-    DrainedClaims l (brought_forward_by_open l) (run l (record { book = (open_effect l b).book; history = [] }) calls) i
+    (l : List ℕ) (from : Start) → (start_effect l from).answer.done ≡ true → (calls : List Call) → (i : ℕ) → i < cells l →
+    DrainedClaims l (brought_forward l from) (run l (started l from) calls) i
 
 -- ---- the same from any book that a call accepts, with what it brings forward counted as given before
 

@@ -3,6 +3,7 @@ use mathlib.Core.Path.{◌≡◌, refl, sym, ap, ◌∙◌}
 use mathlib.Core.Bool.{Bool, true, false, cond}
 use mathlib.Core.List.{List}
 use Prim.Native.Nat.{ℕ, ◌+◌, ◌≤◌, ◌<◌}
+use native.Mathlib.Omega.{arith}
 use lib.Dec.{eqb}
 use lib.ListN.{length}
 use borrow.Author.Tests.{eqb-true}
@@ -14,8 +15,8 @@ use Rattle.listing.specs.Layout.{cells, horizon}
 use Rattle.year.specs.Year.{planned, marked}
 use Rattle.year.specs.declared.Entry.{Entry}
 use Rattle.book.specs.Current.{current, issued, with_issued, with_plan, entry, fitted, admitted, Holds}
-use Rattle.book.specs.Layout.{year, oxidised_line, burned_line, kg_line}
-use Rattle.book.proofs.AcceptedBook.{shaped, accepted_book}
+use Rattle.book.specs.Layout.{issued_in_one_word, year, oxidised_line, burned_line, kg_line}
+use Rattle.book.proofs.AcceptedBook.{shaped, one_word_shaped, accepted_book}
 use Rattle.book.proofs.Entries.{replaced}
 use Rattle.book.proofs.Holds.{holds, holds_as, holds_issued, holds_plan}
 use Rattle.balance.specs.Balance.{tonnes_due}
@@ -25,8 +26,10 @@ use Rattle.opening.proofs.Opened.{open_holds}
 use Rattle.closing.specs.Closing.{loss, closed_entry, book_after, lines_after, close_answer}
 use Rattle.closing.proofs.Closable.{closable}
 use Rattle.closing.proofs.Closed.{year_holds, year_lines}
+use Rattle.converting.specs.Converting.{convert_answer, converted_book}
+use Rattle.converting.proofs.Converted.{converted_holds}
 use Rattle.ledger.specs.Calls.{open_effect, close_effect, admitted_unwithdrawn, replan_answer, replan_effect, withdraw_effect, issue_answer, issue_effect, Call, Close}
-use Rattle.ledger.specs.Calls.{Replan, Withdraw, Issue, call_effect}
+use Rattle.ledger.specs.Calls.{Replan, Withdraw, Issue, call_effect, convert_effect, EveryConversion, Start, Open, Convert, start_effect}
 use Rattle.ledger.proofs.AdmittedCell.{unwithdrawn_accepted, replan_accepted}
 
 -- ---- open and close
@@ -49,6 +52,20 @@ closed_line l b x h i lt =
     let same = written_new (close_answer l b (length x)) x (lines_after l b x) h in
     let line = year_lines l b (length x) (closable l b (length x) h) x i lt in
     (ap (λ (y : List ℕ). oxidised_line y i) same ∙ line.0, ap (λ (y : List ℕ). burned_line y i) same ∙ line.1, ap (λ (y : List ℕ). kg_line y i) same ∙ line.2)
+
+-- ---- convert
+
+pub every_conversion : EveryConversion
+unfolding convert_effect
+every_conversion l old new h =
+    rw (written_new (convert_answer issued_in_one_word current l old new) new (converted_book issued_in_one_word current l old new) h)
+    (converted_holds issued_in_one_word current one_word_shaped shaped (omega arith) l old new h)
+
+-- ---- any start leaves an accepted book
+
+pub start_admits : (l : List ℕ) (from : Start) → (start_effect l from).answer.done ≡ true → (admitted l (start_effect l from).book).done ≡ true
+start_admits l (Open b) done = (opened_holds l b done).admits
+start_admits l (Convert old new) done = (every_conversion l old new done).admits
 
 -- ---- replan and withdraw: the entry of cell i is changed, and no other
 

@@ -18,18 +18,20 @@ use Rattle.year.specs.Year.{planned, marked}
 use Rattle.year.specs.declared.Entry.{Entry}
 use Rattle.book.specs.Current.{current, book_size, entry, with_plan, held_at, new_book, fitted, Fitted}
 use Rattle.book.specs.Held as held
-use Rattle.book.specs.Layout.{line_words, issued_at, issued_words, issued_kind, year_at, year_kind, year, stored}
+use Rattle.book.specs.Layout.{issued_in_one_word, line_words, issued_at, issued_words, issued_kind, year_at, year_kind, year, stored}
 use Rattle.book.proofs.Numbers.{length_stored, stored_outside}
 use Rattle.book.proofs.Places.{entry_before}
-use Rattle.book.proofs.AcceptedBook.{shaped, fitted_accepted}
+use Rattle.book.proofs.AcceptedBook.{shaped, one_word_shaped, fitted_accepted}
 use Rattle.book.proofs.Held.{held_at_sized}
 use Rattle.opening.specs.Opening.{open_entry, open_book}
 use Rattle.closing.specs.Closing.{closed_words, closed_lines, book_after, lines_after, close_answer}
 use Rattle.closing.specs.Closable.{Closable}
 use Rattle.closing.proofs.Closable.{closable}
 use Rattle.closing.proofs.Loop.{closed_sized, lines_sized}
+use Rattle.converting.specs.Converting.{convert_answer, converted_book}
+use Rattle.converting.proofs.Convertible.{convertible}
 use Rattle.ledger.specs.Calls.{admitted_unwithdrawn, replan_answer, replan_effect, withdraw_effect, issue_answer, issue_effect, open_effect, close_effect, Close, Replan}
-use Rattle.ledger.specs.Calls.{Withdraw, Issue, UntouchedFrom, EveryUntouched, Call, call_effect, lines_buffer}
+use Rattle.ledger.specs.Calls.{Start, Open, Convert, start_effect, start_book, convert_effect, Withdraw, Issue, UntouchedFrom, EveryUntouched, Call, call_effect, lines_buffer}
 use Rattle.ledger.specs.AdmittedCell.{AdmittedCell}
 use Rattle.ledger.proofs.AdmittedCell.{unwithdrawn_accepted, replan_accepted}
 
@@ -80,9 +82,12 @@ new_beyond l b t n e fits =
     (stored_beyond (book_size (cells l)) _ year_kind year_at 1 t (omega arith)))
     (stored_beyond (book_size (cells l)) _ issued_kind issued_at (issued_words current) n (omega arith))
 
-opened_beyond : (l b : List ℕ) → UntouchedFrom (book_size (cells l)) b (open_effect l b).book
-unfolding open_effect
-opened_beyond l b = committed _ (fitted l b) b (open_book l b) (λ e. new_beyond l b 0 0 (open_entry l) (fitted_accepted current l b shaped e))
+start_beyond : (l : List ℕ) (from : Start) → UntouchedFrom (book_size (cells l)) (start_book from) (start_effect l from).book
+unfolding open_effect convert_effect
+start_beyond l (Open b) = committed _ (fitted l b) b (open_book l b) (λ e. new_beyond l b 0 0 (open_entry l) (fitted_accepted current l b shaped e))
+start_beyond l (Convert old new) =
+    committed _ (convert_answer issued_in_one_word current l old new) new (converted_book issued_in_one_word current l old new)
+    (λ e. new_beyond l new _ _ _ (convertible issued_in_one_word current one_word_shaped shaped (omega arith) l old new e).fitted)
 
 book_beyond : (l b : List ℕ) (c : Call) → UntouchedFrom (book_size (cells l)) b (call_effect l b c).book
 unfolding close_effect replan_effect withdraw_effect issue_effect
@@ -99,4 +104,4 @@ output_beyond l b (Withdraw i) = same _ _
 output_beyond l b Issue = same _ _
 
 pub every_untouched : EveryUntouched
-every_untouched = record { opened = opened_beyond; book = book_beyond; lines = output_beyond }
+every_untouched = record { start = start_beyond; book = book_beyond; lines = output_beyond }

@@ -1,15 +1,18 @@
--- Document 01, "Book and calls": what each call on a listing l and a book b answers, and what it leaves in the slices lent to it.
-use Rattle.std.specs.Prelude.{◌≡◌, ℕ, ◌+◌, ◌*◌, ◌≤◌, Bool, false, not, ◌&&◌, ◌||◌, List, [], leb, ltb, eqb, length, get_or}
+-- Document 01, "Book and calls", with the conversion of document 02: what each call on a listing l and a book b answers, and what it leaves in the
+-- slices lent to it.
+use Rattle.std.specs.Prelude.{◌≡◌, ℕ, ◌+◌, ◌*◌, ◌≤◌, Bool, true, false, not, ◌&&◌, ◌||◌, List, [], leb, ltb, eqb, length, get_or}
 use Rattle.words.specs.Answers.{Answer, AnswerWith, accepted, need, after, with_figures}
 use Rattle.words.specs.Effect.{Effect, commit, commit_both}
 use Rattle.words.specs.Refusals.{no_such_cell, cell_withdrawn, cell_converted, year_not_ahead}
 use Rattle.listing.specs.Layout.{cells, horizon, cell}
 use Rattle.year.specs.Year.{unconverted, remaining, planned, marked}
-use Rattle.book.specs.Current.{book_size, issued, entry, kg_to_date, with_issued, with_plan, fitted, admitted}
-use Rattle.book.specs.Layout.{line_words, year}
+use Rattle.book.specs.Current.{book_size, issued, entry, kg_to_date, with_issued, with_plan, fitted, admitted, Holds}
+use Rattle.book.specs.Layout as layout
+use Rattle.book.specs.Layout.{issued_in_one_word, issued_in_two_words, line_words, year}
 use Rattle.balance.specs.Balance.{tonnes_due}
 use Rattle.opening.specs.Opening.{open_book}
 use Rattle.closing.specs.Closing.{book_after, lines_after, close_answer}
+use Rattle.converting.specs.Converting.{convert_answer, converted_book}
 use Rattle.ledger.specs.declared.CellFigures.{CellFigures}
 
 -- ---- open: year 0, 0 issued, plan years of the listing, nothing withdrawn, zeros
@@ -102,6 +105,37 @@ figures_of l b i =
 unfoldable pub statement_answer : List ℕ → List ℕ → ℕ → AnswerWith CellFigures
 statement_answer l b i = with_figures no_figures (admitted_cell l b i) (figures_of l b i)
 
+-- ---- convert: a book with one word of tonnes issued, without loss, into a second slice
+
+-- refused by 1 to 6 for the old book, by 6 for the new one, and by 8
+unfoldable pub convert_effect : List ℕ → List ℕ → List ℕ → Effect
+convert_effect l old new =
+    commit (convert_answer issued_in_one_word issued_in_two_words l old new) new (converted_book issued_in_one_word issued_in_two_words l old new)
+
+-- the new book passes 6 and 8 of every call on that listing, and its year, its tonnes issued and each cell's mark, plan year, O and B are those of
+-- the old one; proofs/After.antt proves it
+abbrev pub EveryConversion : Type 0
+EveryConversion =
+    (l old new : List ℕ) → (convert_effect l old new).answer.done ≡ true →
+    Holds l (convert_effect l old new).book (year old) (layout.issued issued_in_one_word old) (layout.entry issued_in_one_word old)
+
+-- ---- the call that a list of calls starts from
+
+-- an open of a book, or a conversion of an old book into a new one
+pub data Start : Type 0 where
+  Open : List ℕ → Start
+  Convert : List ℕ → List ℕ → Start
+
+-- what it answers and leaves
+abbrev pub start_effect : List ℕ → Start → Effect
+start_effect l (Open b) = open_effect l b
+start_effect l (Convert old new) = convert_effect l old new
+
+-- the slice that it may write
+abbrev pub start_book : Start → List ℕ
+start_book (Open b) = b
+start_book (Convert old new) = new
+
 -- ---- any call that may write
 
 -- with whatever arguments the caller gives: any lines buffer, any cell, any year
@@ -132,6 +166,6 @@ pub record UntouchedFrom (n : ℕ) (x y : List ℕ) : Type 0 where
 
 -- words beyond those needed are untouched everywhere; proofs/Untouched.antt proves it, and the forecast has a statement of its own
 pub record EveryUntouched : Type 0 where
-  pub opened : (l b : List ℕ) → UntouchedFrom (book_size (cells l)) b (open_effect l b).book
+  pub start : (l : List ℕ) (from : Start) → UntouchedFrom (book_size (cells l)) (start_book from) (start_effect l from).book
   pub book : (l b : List ℕ) (c : Call) → UntouchedFrom (book_size (cells l)) b (call_effect l b c).book
   pub lines : (l b : List ℕ) (c : Call) → UntouchedFrom (line_words * cells l) (lines_buffer c) (call_effect l b c).output

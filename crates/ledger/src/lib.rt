@@ -1,4 +1,4 @@
-// The ledger's six calls. None requires anything of its caller; each answers a reason and a place where
+// The ledger's seven calls. None requires anything of its caller; each answers a reason and a place where
 // it is refused, and then it has written nothing. They take slices, as C gives them.
 #![tactic(auto)]
 
@@ -7,9 +7,9 @@ ghost use Rattle.words.specs.Answers.{outcome, amount, answer_with};
 ghost use Rattle.words.specs.Effect.{effect};
 ghost use Rattle.listing.specs.Layout.{cells};
 ghost use Rattle.ledger.specs.Calls.{open_effect, close_effect, cell_checked, admitted_cell, mark_checked, admitted_unwithdrawn, plan_checked, replan_answer, replan_effect};
-ghost use Rattle.ledger.specs.Calls.{withdraw_effect, issue_effect, no_figures, figures_of, statement_answer};
+ghost use Rattle.ledger.specs.Calls.{withdraw_effect, issue_effect, no_figures, figures_of, statement_answer, convert_effect};
 
-use book::{BOOK, OpenBook};
+use book::{BOOK, ISSUED_IN_ONE_WORD, ISSUED_IN_TWO_WORDS, OpenBook};
 use listing::Listing;
 use words::{Reason, Refusal, need};
 
@@ -168,4 +168,14 @@ pub fn statement(listing: &[u32], book: &[u32], cell: usize) -> Result<CellFigur
 {
     let open = admit_cell(listing, book, cell)?;
     Ok(figures_of(&open, cell))
+}
+
+// Converts a book with one word of tonnes issued into one with two, in a slice of its own.
+pub fn convert(listing: &[u32], old: &[u32], new: &mut [u32]) -> Result<(), Refusal>
+    ensures { effect (outcome result) new.new [] ≡ convert_effect listing.now old.now new.old }
+{
+    let (from, to) = (ISSUED_IN_ONE_WORD, ISSUED_IN_TWO_WORDS);
+    let accepted = converting::may_convert(from, to, listing, old, &new[..])?;
+    converting::convert_book(from, to, &accepted, old, new);
+    Ok(())
 }

@@ -89,7 +89,7 @@ module _ {n : ℕ} {o : Order n} {l l' b b' : List ℕ} (v : Pair o l l' b b') w
   here_cell = moved_there o (cell l) (cell l') (cell_is e)
 
   here_entry : (k : ℕ) → k < n → entry b' (o.to k) ≡ entry b k
-  here_entry = moved_there o (entry b) (entry b') (entry_is eb)
+  here_entry = moved_there o (entry b) (entry b') (entry_is current shaped eb)
 
   -- it is one, or it is none
   there_same : (k : ℕ) → ltb (o.to k) n ≡ ltb k n
@@ -108,7 +108,7 @@ module _ {n : ℕ} {o : Order n} {l l' b b' : List ℕ} (v : Pair o l l' b b') w
 
   plan_same : (k t : ℕ) → k < n → plan_checked l' b' (o.to k) t ≡ plan_checked l b k t
   unfolding plan_checked ahead
-  plan_same k t lt = rw (here_entry k lt, year_is eb, horizon_is e)
+  plan_same k t lt = rw (here_entry k lt, year_is current shaped eb, horizon_is e)
 
   figures_same : (k : ℕ) → k < n → figures_of l' b' (o.to k) ≡ figures_of l b k
   unfolding figures_of
@@ -117,7 +117,7 @@ module _ {n : ℕ} {o : Order n} {l l' b b' : List ℕ} (v : Pair o l l' b b') w
   -- ---- what is due
 
   kg_is : (m : ℕ) → m < n → kg_to_date l' b' m ≡ kg_to_date l b (o.from m)
-  kg_is m lt = ap (λ (h : Head). kg_of h (cell l' m) (entry b' m)) e.head_is ∙ ap₂ (kg_of (head l)) (cell_is e m lt) (entry_is eb m lt)
+  kg_is m lt = ap (λ (h : Head). kg_of h (cell l' m) (entry b' m)) e.head_is ∙ ap₂ (kg_of (head l)) (cell_is e m lt) (entry_is current shaped eb m lt)
 
   pub kg_sum_is : sum_below (kg_to_date l' b') (cells l') ≡ sum_below (kg_to_date l b) (cells l)
   kg_sum_is = rw (cells_is e, e.count) (same_sum o (kg_to_date l b) (kg_to_date l' b') kg_is)
@@ -125,8 +125,8 @@ module _ {n : ℕ} {o : Order n} {l l' b b' : List ℕ} (v : Pair o l l' b b') w
   due_is : tonnes_due l' b' ≡ tonnes_due l b
   due_is =
       let balance_is : balance_in l' b' ≡ balance_in l b =
-      balance_by l' l (year b') (year b) (kg_to_date l' b') (kg_to_date l b) (year_is eb) kg_sum_is (ap (λ (h : Head). h.buffer) e.head_is) (terms_are_lem e) in
-      ap₂ due balance_is (issued_is eb)
+      balance_by l' l (year b') (year b) (kg_to_date l' b') (kg_to_date l b) (year_is current shaped eb) kg_sum_is (ap (λ (h : Head). h.buffer) e.head_is) (terms_are_lem e) in
+      ap₂ due balance_is (issued_is current shaped eb)
 
   -- ---- a year
 
@@ -136,8 +136,8 @@ module _ {n : ℕ} {o : Order n} {l l' b b' : List ℕ} (v : Pair o l l' b b') w
       let s = closable l b size done in
       let valid = s.accepted_book.fitted.accepted in
       let ahead = s.ahead in
-      let years = year_is eb in
-      let stratum : (cell l' m).stratum < strata l = omega (arith, ap (λ (c : Cell). c.stratum) (cell_is e m lt), (valid.cell_valid (o.from m) (there e m lt)).stratum) in
+      let years = year_is current shaped eb in
+      let stratum : (cell l' m).stratum < strata l = omega (arith, ap (λ (c : Cell). c.stratum) (cell_is e m lt), (valid.cell_valid (o.from m) (there current shaped e m lt)).stratum) in
       own_words l' b' m l b (o.from m)
       (record {
         figures = same_figures e.head_is;
@@ -157,7 +157,7 @@ module _ {n : ℕ} {o : Order n} {l l' b b' : List ℕ} (v : Pair o l l' b b') w
     valid' = accepted_book current l' b' shaped (v.admits a)
 
     year_same : year_checked l' b' ≡ year_checked l b
-    year_same = year_checked_is l' b' valid' ∙ rw (year_is eb, horizon_is e) (sym (year_checked_is l b valid))
+    year_same = year_checked_is l' b' valid' ∙ rw (year_is current shaped eb, horizon_is e) (sym (year_checked_is l b valid))
 
     -- 1 to 8 are passed on both
     pub equally : Related (λ x x'. x' ≡ x) l l' b b'
@@ -217,7 +217,7 @@ module _ {n : ℕ} {o : Order n} {l l' b b' : List ℕ} (v : Pair o l l' b b') w
       rw (here_entry k (rw e.count at r.there)) (plan_moved e eb r.accepted_book.fitted (valid' r.admits).fitted k (marked (entry b k))))
   book_same Issue y alike =
       both _ _ alike
-      (λ done. let a = call_admitted l b Issue done in rw (due_is, issued_is eb) (issued_moved e eb (valid a).fitted (valid' a).fitted _))
+      (λ done. let a = call_admitted l b Issue done in rw (due_is, issued_is current shaped eb) (issued_moved e eb (valid a).fitted (valid' a).fitted _))
 
   lines_same : (c : Call) (y : List ℕ) → (call_effect l' b' (moved o y c)).answer.done ≡ (call_effect l b c).answer.done → (call_effect l b c).answer.done ≡ true →
       LinesMoved o (call_effect l b c).output (call_effect l' b' (moved o y c)).output
@@ -268,12 +268,12 @@ same_call {l = l} {b = b} v a c y long =
 module _ {n : ℕ} {o : Order n} {l l' b b' : List ℕ} (p : ProjectMoved o l b l' b') where
   pub related : Related ButForPlace l l' b b'
   related =
-      let fits = fitted_alike p.listing b b' p.length_is in
+      let fits = fitted_alike current shaped p.listing b b' p.length_is in
       record {
         same = alike_same;
         both_done = λ a a' e. sym e.done_is;
         fits = fits;
-        checks = λ done. book_alike p.listing p.book (fitted_accepted current l b shaped done) (fitted_accepted current l' b' shaped (fits.done_is ∙ done));
+        checks = λ done. book_alike current shaped p.listing p.book (fitted_accepted current l b shaped done) (fitted_accepted current l' b' shaped (fits.done_is ∙ done));
       }
 
   pub pair_alike : Pair o l l' b b'

@@ -9,12 +9,13 @@ use Rattle.words.proofs.Answers.{after_accepted}
 use Rattle.listing.specs.Check.{checked}
 use Rattle.book.specs.Current.{fitted}
 use Rattle.book.specs.Check as check
-use Rattle.ledger.specs.Calls.{open_effect, statement_answer}
+use Rattle.ledger.specs.Calls.{statement_answer}
 use Rattle.forecast.specs.Forecast.{output_checked, forecast_checked, forecast_answer, forecast_effect}
 use Rattle.forecast.proofs.EveryYear.{checked_passed}
 use Rattle.order.specs.Order.{EveryBook}
 use Rattle.order.proofs.Listings.{horizon_is}
 use Rattle.order.proofs.EveryForecast.{total_same}
+use Rattle.order.proofs.Starts.{start_alike}
 use Rattle.order.proofs.Calls.{next, equal, admitted_cell_by, call_by, book_same, related, pair_alike}
 
 -- a book fits a valid listing alone
@@ -23,13 +24,13 @@ unfolding check.fitted
 fitted_checked l b h = (after_accepted _ _ h).0
 
 pub every_book : EveryBook
-unfolding open_effect statement_answer forecast_effect forecast_answer forecast_checked output_checked
+unfolding statement_answer forecast_effect forecast_answer forecast_checked output_checked
 every_book n o l b l' b' p =
     let v = pair_alike p in
     let r = related p in
     let called = call_by v r in
     record {
-      opened = r.fits;
+      started = λ from old' c' eb long. start_alike p.listing from old' c' eb long;
       called = called;
       book_moved = λ c y long. book_same v c y (called c y long).done_is;
       stated = admitted_cell_by v r;

@@ -1,7 +1,7 @@
 -- A forecast opens a scratch book and closes every year, so it gives the same in every order of the cells. Assumes nothing.
 use mathlib.Core.Path.{◌≡◌, refl, sym, ap, ◌∙◌}
 use mathlib.Core.Bool.{true}
-use mathlib.Core.List.{List}
+use mathlib.Core.List.{List, []}
 use Prim.Native.Nat.{ℕ, zero, suc, ◌+◌, ◌*◌, ◌≤◌, ◌<◌}
 use native.Mathlib.Nat.{le_refl, zero-add}
 use native.Mathlib.Omega.{arith}
@@ -10,11 +10,12 @@ use Rattle.words.specs.Answers.{Answer, accepted}
 use Rattle.words.proofs.Answers.{after_both}
 use Rattle.listing.specs.Layout.{cells, horizon}
 use Rattle.listing.specs.Check.{checked}
-use Rattle.book.specs.Current.{admitted}
+use Rattle.book.specs.Current.{current, admitted}
 use Rattle.book.specs.Layout.{line_words}
+use Rattle.book.proofs.AcceptedBook.{shaped}
 use Rattle.opening.specs.Opening.{open_book}
 use Rattle.years.specs.Years.{after_closings}
-use Rattle.ledger.specs.Calls.{open_effect, Close}
+use Rattle.ledger.specs.Calls.{Open, open_effect, Close}
 use Rattle.ledger.proofs.After.{call_admitted}
 use Rattle.forecast.specs.Forecast.{closed_book, output_checked, forecast_checked, total_kg, forecast_answer, forecast_effect}
 use Rattle.forecast.specs.Closings.{Closes, ClosedYears}
@@ -23,13 +24,13 @@ use Rattle.order.specs.Order.{Order, ListingMoved, BookMoved, EveryForecast}
 use Rattle.order.proofs.Listings.{cells_is, horizon_is}
 use Rattle.order.proofs.Books.{fitted_same}
 use Rattle.order.proofs.Calls.{Pair, kg_sum_is, pair_next, same_call}
-use Rattle.order.proofs.EveryOrder.{pair_opened}
+use Rattle.order.proofs.EveryOrder.{pair_started}
 use Rattle.order.proofs.Orders.{same_totals}
 
 module _ {n : ℕ} {o : Order n} {l l' : List ℕ} (e : ListingMoved o l l') (b x b' x' : List ℕ) (long : length b' ≡ length b) (long' : length x' ≡ length x) (valid : (checked l).done ≡ true) where
   tests_same : forecast_checked l' b' (length x') ≡ forecast_checked l b (length x)
   unfolding forecast_checked output_checked
-  tests_same = rw (long', fitted_same e b b' long valid, horizon_is e)
+  tests_same = rw (long', fitted_same current shaped e b b' long valid, horizon_is e)
 
   module _ (tests : (forecast_checked l b (length x)).done ≡ true) where
     tests' : (forecast_checked l' b' (length x')).done ≡ true
@@ -62,7 +63,7 @@ module _ {n : ℕ} {o : Order n} {l l' : List ℕ} (e : ListingMoved o l l') (b 
 
     closed : (t : ℕ) → t ≤ horizon l → Pair o l l' (after_closings l (open_effect l b).book t) (after_closings l' (open_effect l' b').book t)
     unfolding after_closings
-    closed zero le = pair_opened e b b' long years.opens
+    closed zero le = pair_started e (Open b) [] b' tt long years.opens
     closed (suc t) le = rw ((closes t le).book, (closes' t le).book) at (pair_next (closed t (omega arith)) (admits t le) (Close lines) lines refl)
 
     book_same : BookMoved o (forecast_effect l b x).book (forecast_effect l' b' x').book

@@ -1,16 +1,15 @@
 -- THE THEOREM of specs/Order.antt: every list of calls gives the same in every order of the cells. Assumes nothing.
-use mathlib.Core.Path.{◌≡◌, ◌∙◌}
+use mathlib.Core.Path.{◌≡◌, refl, sym, ◌∙◌}
 use mathlib.Core.Bool.{true}
 use mathlib.Core.List.{List, [], ◌∷◌}
 use Prim.Native.Nat.{ℕ}
 use lib.ListN.{length}
-use Rattle.book.specs.Current.{current, admitted}
-use Rattle.book.proofs.Valid.{fitted_is}
-use Rattle.ledger.specs.Calls.{open_effect, call_effect, Call}
-use Rattle.ledger.proofs.After.{opened_holds, call_admits}
-use Rattle.order.specs.Order.{Order, ListingMoved, moved, SameCalls, EveryOrder, EveryOrderFrom}
-use Rattle.order.proofs.Books.{fitted_alike, open_moved}
-use Rattle.order.proofs.Calls.{written_moved, none_moved, Pair, statement_same, pair_next, same_call, pair_alike}
+use Rattle.book.specs.Current.{admitted}
+use Rattle.ledger.specs.Calls.{Start, Open, Convert, open_effect, convert_effect, start_effect, start_book, call_effect, Call}
+use Rattle.ledger.proofs.After.{start_admits, call_admits}
+use Rattle.order.specs.Order.{Order, ListingMoved, OldBookMoved, moved_start, moved, SameCalls, EveryOrder, EveryOrderFrom}
+use Rattle.order.proofs.Starts.{starts, start_is, start_moved}
+use Rattle.order.proofs.Calls.{none_moved, Pair, statement_same, pair_next, same_call, pair_alike}
 
 -- ---- a list of calls
 
@@ -25,26 +24,30 @@ same_calls o l l' b b' v a (c ∷ calls) = λ y long. (
 pub every_order_from : EveryOrderFrom
 every_order_from n o l b l' b' p admits calls = same_calls o l l' b b' (pair_alike p) admits calls
 
--- ---- an open
+-- ---- a start
 
-module _ {n : ℕ} {o : Order n} {l l' : List ℕ} (e : ListingMoved o l l') (b b' : List ℕ) (long : length b' ≡ length b) (done : (open_effect l b).answer.done ≡ true) where
-  pub opens : (open_effect l' b').answer.done ≡ true
-  unfolding open_effect
-  opens = (fitted_alike e b b' long).done_is ∙ done
+-- it has no output
+no_lines : (l : List ℕ) (from : Start) → (start_effect l from).output ≡ []
+unfolding open_effect convert_effect
+no_lines l (Open b) = refl
+no_lines l (Convert old new) = refl
 
-  open_same : (open_effect l' b').answer ≡ (open_effect l b).answer
-  unfolding open_effect
-  open_same = rw (fitted_is current l' b' opens, fitted_is current l b done)
-
-  pub pair_opened : Pair o l l' (open_effect l b).book (open_effect l' b').book
-  unfolding open_effect
-  pair_opened = record { listing = e; book = written_moved _ _ b b' done opens (open_moved e b b' done opens); admits = λ a. (opened_holds l' b' opens).admits }
+pub pair_started : {n : ℕ} {o : Order n} {l l' : List ℕ} → ListingMoved o l l' → (from : Start) (old' b' : List ℕ) → OldBookMoved o from old' → length b' ≡ length (start_book from) →
+    (start_effect l from).answer.done ≡ true → Pair o l l' (start_effect l from).book (start_effect l' (moved_start from old' b')).book
+pair_started {l' = l'} e from old' b' eb long done =
+    let done' = starts e from old' b' eb long done in
+    record { listing = e; book = start_moved e from old' b' eb long done done'; admits = λ a. start_admits l' (moved_start from old' b') done' }
 
 pub every_order : EveryOrder
-unfolding open_effect
-every_order n o l b l' b' e long done =
-    let v = pair_opened e b b' long done in
-    let admits = (opened_holds l b done).admits in (
-      record { answer_is = open_same e b b' long done; book_moved = v.book; lines_moved = λ h. none_moved; statement_is = statement_same v admits },
+every_order n o l from l' old' b' e eb long done =
+    let from' = moved_start from old' b' in
+    let v = pair_started e from old' b' eb long done in
+    let admits = start_admits l from done in (
+      record {
+        answer_is = start_is l' from' (starts e from old' b' eb long done) ∙ sym (start_is l from done);
+        book_moved = v.book;
+        lines_moved = λ h. rw (no_lines l from, no_lines l' from') none_moved;
+        statement_is = statement_same v admits;
+      },
       same_calls o l l' _ _ v admits,
     )

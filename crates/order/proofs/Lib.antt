@@ -5,6 +5,7 @@ pub mod Moved
 pub mod Listings
 pub mod Books
 pub mod Calls
+pub mod Starts
 pub mod EveryOrder
 pub mod Orders
 pub mod EveryForecast

@@ -10,9 +10,9 @@ use Rattle.listing.specs.Check.{checked}
 use Rattle.year.specs.Year.{unconverted, age}
 use Rattle.year.specs.Limits.{SameFigures}
 use Rattle.book.specs.Current.{current, entry_at, entry, admitted}
-use Rattle.book.specs.Layout.{line_words, year, line_at}
+use Rattle.book.specs.Layout.{issued_in_one_word, line_words, year, line_at}
 use Rattle.closing.specs.Closing.{loss, closed_words, closed_lines}
-use Rattle.ledger.specs.Calls.{open_effect, statement_answer, Call, Close, Replan, Withdraw, Issue, call_effect, lines_buffer}
+use Rattle.ledger.specs.Calls.{statement_answer, Start, Open, Convert, start_effect, start_book, Call, Close, Replan, Withdraw, Issue, call_effect, lines_buffer}
 use Rattle.forecast.specs.Forecast.{forecast_effect}
 
 -- the n words of x from place p on are those of y from place q on
@@ -74,6 +74,11 @@ BookMoved o = Moved o current.entry current.head
 abbrev pub LinesMoved : {n : ℕ} → Order n → List ℕ → List ℕ → Type 0
 LinesMoved o = Moved o line_words 0
 
+-- the old book of a conversion in that order, and as long; an open has none
+abbrev pub OldBookMoved : {n : ℕ} → Order n → Start → List ℕ → Type 0
+OldBookMoved o (Open b) old' = Unit {0}
+OldBookMoved o (Convert old new) old' = Moved o issued_in_one_word.entry issued_in_one_word.head old old' × (length old' ≡ length old)
+
 -- listing and book
 pub record ProjectMoved {n : ℕ} (o : Order n) (l b l' b' : List ℕ) : Type 0 where
   pub listing : ListingMoved o l l'
@@ -81,6 +86,11 @@ pub record ProjectMoved {n : ℕ} (o : Order n) (l b l' b' : List ℕ) : Type 0 
   pub length_is : length b' ≡ length b
 
 -- ---- the same calls
+
+-- the start on l': an open of b', or a conversion of old' into b'
+abbrev pub moved_start : Start → List ℕ → List ℕ → Start
+moved_start (Open b) old' b' = Open b'
+moved_start (Convert old new) old' b' = Convert old' b'
 
 -- the call on l': of the same cell, where it now is, and a closing with a lines buffer y
 abbrev pub moved : {n : ℕ} → Order n → List ℕ → Call → Call
@@ -104,12 +114,14 @@ SameCalls o l l' b b' (c ∷ calls) =
     (y : List ℕ) → length y ≡ length (lines_buffer c) →
     SameCall o l l' (call_effect l b c) (call_effect l' b' (moved o y c)) × SameCalls o l l' (call_effect l b c).book (call_effect l' b' (moved o y c)).book calls
 
--- THE THEOREM: for every order of the cells of every listing that open accepts with a book b, with every book b' as long as b, and every
--- list of calls, refused ones included
+-- THE THEOREM: for every order of the cells of every listing that an open or a conversion accepts, with every book b' as long as the one that it
+-- writes, and every list of calls, refused ones included
 abbrev pub EveryOrder : Type 0
 EveryOrder =
-    (n : ℕ) (o : Order n) (l b l' b' : List ℕ) → ListingMoved o l l' → length b' ≡ length b → (open_effect l b).answer.done ≡ true →
-    SameCall o l l' (open_effect l b) (open_effect l' b') × ((calls : List Call) → SameCalls o l l' (open_effect l b).book (open_effect l' b').book calls)
+    (n : ℕ) (o : Order n) (l : List ℕ) (from : Start) (l' old' b' : List ℕ) → ListingMoved o l l' → OldBookMoved o from old' → length b' ≡ length (start_book from) →
+    (start_effect l from).answer.done ≡ true →
+    let from' = moved_start from old' b' in
+    SameCall o l l' (start_effect l from) (start_effect l' from') × ((calls : List Call) → SameCalls o l l' (start_effect l from).book (start_effect l' from').book calls)
 
 -- the same from any book that a call accepts
 abbrev pub EveryOrderFrom : Type 0
@@ -125,7 +137,8 @@ pub record ButForPlace (a a' : Answer) : Type 0 where
 -- any listing and any book, valid or not: a call is refused in every order or in none, by the same number. The place may be another: it
 -- is that of the first invalid word, and which of two invalid cells is first depends on the order
 pub record RefusedAlike {n : ℕ} (o : Order n) (l b l' b' : List ℕ) : Type 0 where
-  pub opened : ButForPlace (open_effect l b).answer (open_effect l' b').answer
+  pub started : (from : Start) (old' c' : List ℕ) → OldBookMoved o from old' → length c' ≡ length (start_book from) →
+      ButForPlace (start_effect l from).answer (start_effect l' (moved_start from old' c')).answer
   pub called : (c : Call) (y : List ℕ) → length y ≡ length (lines_buffer c) → ButForPlace (call_effect l b c).answer (call_effect l' b' (moved o y c)).answer
   pub book_moved : (c : Call) (y : List ℕ) → length y ≡ length (lines_buffer c) → BookMoved o (call_effect l b c).book (call_effect l' b' (moved o y c)).book
   pub stated : (k : ℕ) → ButForPlace (statement_answer l b k).answer (statement_answer l' b' (o.to k)).answer

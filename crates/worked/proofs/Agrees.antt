@@ -18,7 +18,8 @@ use Rattle.book.specs.Layout.{joined, year, issued, entry_of, stored, held_words
 use Rattle.book.specs.Held.{new_book}
 use Rattle.balance.specs.Balance.{peat_tonnes, withheld, balance_of, due}
 use Rattle.closing.specs.Closing.{closed_lines, book_after, lines_after, lines_checked, line_fits, year_checked, close_answer}
-use Rattle.ledger.specs.Calls.{open_effect, close_effect, cell_checked, admitted_cell, issue_answer, issue_effect, figures_of, statement_answer}
+use Rattle.converting.specs.Converting.{convert_answer}
+use Rattle.ledger.specs.Calls.{open_effect, convert_effect, close_effect, cell_checked, admitted_cell, issue_answer, issue_effect, figures_of, statement_answer}
 use Rattle.reading.specs.Depth.{core, in_depth, levels}
 use Rattle.reading.specs.Metres.{in_core, in_level, mm}
 use Rattle.discount.specs.Discount.{greatest, not_above, factor}
@@ -32,7 +33,7 @@ unfolding of_bits need need_none after written twos_complement at_least_0 is_kin
     words_checked later_checked checked tables_at offsets_of counted total unconverted inactive burned_by oxidised_by mm_of year_mm burned_weight
     emission year_loss most_loss is_year_word is_plan_word is_burned_word is_head_word entry_word_valid book_word_valid capacity_checked fitted
     book_checked admitted joined year issued entry_of stored held_words new_book lines_of sum_below peat_tonnes withheld balance_of due closed_lines
-    book_after lines_after lines_checked line_fits year_checked close_answer open_effect close_effect cell_checked admitted_cell issue_answer
+    book_after lines_after lines_checked line_fits year_checked close_answer open_effect convert_answer convert_effect close_effect cell_checked admitted_cell issue_answer
     issue_effect figures_of statement_answer core in_depth levels in_core in_level mm greatest not_above factor weighted products all_at_most
     logging.figures_of logging.sizes_valid logging.tables_checked logging.logged
 every_row = refl

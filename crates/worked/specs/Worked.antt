@@ -1,6 +1,6 @@
 -- Document 01, "Worked on paper", and after it what was worked out for the change requests: the definitions that the contracts
 -- cite, applied to these figures, in their order. One table, and one theorem that every row agrees; proofs/Agrees.antt proves it.
-use Rattle.std.specs.Prelude.{◌≡◌, false, cond, List, [], ◌∷◌, ◌++◌, map, ℕ, zero, suc, ◌+◌, ◌*◌, take}
+use Rattle.std.specs.Prelude.{◌≡◌, false, cond, List, [], ◌∷◌, ◌++◌, map, ℕ, zero, suc, ◌+◌, ◌*◌, ◌^◌, take}
 use Rattle.std.specs.Float.{binary32}
 use Rattle.std.specs.Float.Ieee.{of_bits}
 use Rattle.fields.specs.declared.Cell.{Cell}
@@ -8,7 +8,7 @@ use Rattle.listing.specs.Layout.{head, guard, row as table}
 use Rattle.listing.specs.Check.{checked}
 use Rattle.year.specs.Year.{burned_by, oxidised_by, emission, year_loss}
 use Rattle.book.specs.Layout.{oxidised_line, burned_line, kg_line}
-use Rattle.ledger.specs.Calls.{open_effect, close_effect, issue_effect, statement_answer}
+use Rattle.ledger.specs.Calls.{open_effect, convert_effect, close_effect, issue_effect, statement_answer}
 use Rattle.reading.specs.Depth.{depth}
 use Rattle.reading.specs.declared.Reading.TheVariants.{Core, Levels}
 use Rattle.discount.specs.Discount.{factor}
@@ -50,15 +50,15 @@ loses l mm o b =
 abbrev pub enters : ℕ → List ℕ
 enters mm = loses listing mm 0 0
 
--- its book as opened, and after each of its years is closed and issued: year, tonnes issued, plan year, O, B
+-- its book as opened, and after each of its years is closed and issued: year, tonnes issued in two words, plan year, O, B
 abbrev pub opened : List ℕ
-opened = 0x80000000 ∷ 0x90000000 ∷ 0xA0000001 ∷ 0xB0000000 ∷ 0xC0000000 ∷ []
+opened = 0x80000000 ∷ 0x90000000 ∷ 0x90000000 ∷ 0xA0000001 ∷ 0xB0000000 ∷ 0xC0000000 ∷ []
 
 abbrev pub after_one : List ℕ
-after_one = 0x80000001 ∷ 0x90000229 ∷ 0xA0000001 ∷ 0xB000002D ∷ 0xC000012C ∷ []
+after_one = 0x80000001 ∷ 0x90000000 ∷ 0x90000229 ∷ 0xA0000001 ∷ 0xB000002D ∷ 0xC000012C ∷ []
 
 abbrev pub after_two : List ℕ
-after_two = 0x80000002 ∷ 0x9000026C ∷ 0xA0000001 ∷ 0xB000005A ∷ 0xC000012C ∷ []
+after_two = 0x80000002 ∷ 0x90000000 ∷ 0x9000026C ∷ 0xA0000001 ∷ 0xB000005A ∷ 0xC000012C ∷ []
 
 -- the first listing with another word 1, and with a word 1 and a site word
 abbrev pub with_word_1 : ℕ → List ℕ
@@ -72,10 +72,10 @@ abbrev pub with_site : List ℕ
 with_site = with_words 0x2014190C 0x707D012C
 
 abbrev pub site_after_one : List ℕ
-site_after_one = 0x80000001 ∷ 0x90000187 ∷ 0xA0000001 ∷ 0xB000002D ∷ 0xC00000C8 ∷ []
+site_after_one = 0x80000001 ∷ 0x90000000 ∷ 0x90000187 ∷ 0xA0000001 ∷ 0xB000002D ∷ 0xC00000C8 ∷ []
 
 abbrev pub site_after_two : List ℕ
-site_after_two = 0x80000002 ∷ 0x900001C8 ∷ 0xA0000001 ∷ 0xB000005A ∷ 0xC00000C8 ∷ []
+site_after_two = 0x80000002 ∷ 0x90000000 ∷ 0x900001C8 ∷ 0xA0000001 ∷ 0xB000005A ∷ 0xC00000C8 ∷ []
 
 -- what is refused: that listing with least thickness 2,001, and with guard 2,001 before a first row of kind 0
 abbrev pub thickness_2001 : List ℕ
@@ -93,10 +93,10 @@ abbrev pub with_char : List ℕ
 with_char = with_word_1 0x2A14190C
 
 abbrev pub char_after_one : List ℕ
-char_after_one = 0x80000001 ∷ 0x900001D1 ∷ 0xA0000001 ∷ 0xB000002D ∷ 0xC000012C ∷ []
+char_after_one = 0x80000001 ∷ 0x90000000 ∷ 0x900001D1 ∷ 0xA0000001 ∷ 0xB000002D ∷ 0xC000012C ∷ []
 
 abbrev pub char_after_two : List ℕ
-char_after_two = 0x80000002 ∷ 0x90000214 ∷ 0xA0000001 ∷ 0xB000005A ∷ 0xC000012C ∷ []
+char_after_two = 0x80000002 ∷ 0x90000000 ∷ 0x90000214 ∷ 0xA0000001 ∷ 0xB000005A ∷ 0xC000012C ∷ []
 
 -- with the site word and a char percentage of 2: an emission that is not whole
 abbrev pub with_site_and_char : List ℕ
@@ -107,13 +107,13 @@ abbrev pub benchmark : List ℕ
 benchmark = 0x10010103 ∷ 0x2014190C ∷ 0x32D0B554 ∷ 0x32D0B554 ∷ 0x32D0B554 ∷ 0x400107D0 ∷ 0x527101F4 ∷ []
 
 abbrev pub benchmark_after_one : List ℕ
-benchmark_after_one = 0x80000001 ∷ 0x90000093 ∷ 0xA0000001 ∷ 0xB000002D ∷ 0xC0000032 ∷ []
+benchmark_after_one = 0x80000001 ∷ 0x90000000 ∷ 0x90000093 ∷ 0xA0000001 ∷ 0xB000002D ∷ 0xC0000032 ∷ []
 
 abbrev pub benchmark_after_two : List ℕ
-benchmark_after_two = 0x80000002 ∷ 0x900000D4 ∷ 0xA0000001 ∷ 0xB000005A ∷ 0xC0000032 ∷ []
+benchmark_after_two = 0x80000002 ∷ 0x90000000 ∷ 0x900000D4 ∷ 0xA0000001 ∷ 0xB000005A ∷ 0xC0000032 ∷ []
 
 abbrev pub benchmark_after_three : List ℕ
-benchmark_after_three = 0x80000003 ∷ 0x90000117 ∷ 0xA0000001 ∷ 0xB0000087 ∷ 0xC0000032 ∷ []
+benchmark_after_three = 0x80000003 ∷ 0x90000000 ∷ 0x90000117 ∷ 0xA0000001 ∷ 0xB0000087 ∷ 0xC0000032 ∷ []
 
 -- two years of a first row with oxidation up to 1,023 mm, so that water ends it after a fire
 abbrev pub wide : List ℕ
@@ -122,6 +122,10 @@ wide = 0x10010102 ∷ 0x2014190C ∷ 0x32DFFD54 ∷ 0x32D0B554 ∷ 0x400107D0 �
 -- two years of 255 cm, of which late losses are asked
 abbrev pub deep : List ℕ
 deep = 0x10010102 ∷ 0x2014190C ∷ 0x3FF0B554 ∷ 0x3FF0B554 ∷ 0x400107D0 ∷ 0x527101F4 ∷ []
+
+-- with a thousand cells, which are not there, and with one more
+abbrev pub with_cells : ℕ → List ℕ
+with_cells n = (n * 2 ^ 16 + 0x10000102) ∷ 0x2014190C ∷ 0x3460B554 ∷ 0x3460B400 ∷ 0x400107D0 ∷ 0x527101F4 ∷ []
 
 -- the number and the place of a refused listing
 abbrev pub refusal : List ℕ → List ℕ
@@ -138,6 +142,21 @@ year l b =
     let m = close_effect l b (zeros 3) in
     let paid = issue_effect l m.book in
     oxidised_line m.output 0 ∷ burned_line m.output 0 ∷ kg_line m.output 0 ∷ paid.answer.value ∷ paid.book
+
+-- a book of the old shape of the first listing: its words of year, tonnes issued and plan year; O 45 and B 300
+abbrev pub old_book : ℕ → ℕ → ℕ → List ℕ
+old_book w₀ w₁ w₂ = w₀ ∷ w₁ ∷ w₂ ∷ 0xB000002D ∷ 0xC000012C ∷ []
+
+-- what a conversion of it into a slice of n zeros answers and leaves: number, place and the slice
+abbrev pub converts : List ℕ → ℕ → List ℕ
+converts b n = let m = convert_effect listing b (zeros n) in m.answer.number ∷ m.answer.place ∷ m.book
+
+-- a book after the first year that brings 2 ^ 28 tonnes issued
+abbrev pub brings_more : List ℕ
+brings_more = 0x80000001 ∷ 0x90000001 ∷ 0x90000000 ∷ 0xA0000001 ∷ 0xB000002D ∷ 0xC000012C ∷ []
+
+abbrev pub brings_more_after_two : List ℕ
+brings_more_after_two = 0x80000002 ∷ 0x90000001 ∷ 0x90000000 ∷ 0xA0000001 ∷ 0xB000005A ∷ 0xC000012C ∷ []
 
 -- a depth by the patterns of its binary32 numbers
 abbrev pub core : ℕ → List ℕ
@@ -191,7 +210,7 @@ rows =
     ∷ row (enters 299) (0 ∷ 0 ∷ [])
     ∷ row (enters 300) (300 ∷ 0 ∷ [])
     ∷ row (emission (head listing) (cell_entered 2000) 45 300 ∷ []) (692500 ∷ [])
-    ∷ row (open_effect listing (zeros 5)).book opened
+    ∷ row (open_effect listing (zeros 6)).book opened
     ∷ row (year listing opened) (45 ∷ 300 ∷ 692500 ∷ 553 ∷ after_one)
     ∷ row (year listing after_one) (45 ∷ 0 ∷ 82500 ∷ 67 ∷ after_two)
     ∷ row ((statement_answer listing after_two 0).figures.remaining ∷ []) (1610 ∷ [])
@@ -231,6 +250,15 @@ rows =
     ∷ row (loses deep 20000 1200 900) (50 ∷ 45 ∷ [])
     ∷ row (loses deep 20000 1500 1049) (0 ∷ 1 ∷ [])
     ∷ row (loses deep 2130 1200 900) (30 ∷ 0 ∷ [])
+    ∷ row (refusal (with_cells 1000)) (3 ∷ 6 ∷ [])
+    ∷ row (refusal (with_cells 1001)) (2 ∷ 0 ∷ [])
+    ∷ row (converts (old_book 0x80000001 0x90000229 0xA0000001) 6) (0 ∷ 0 ∷ after_one)
+    ∷ row (converts (old_book 0x80000002 0x9FFFFFFF 0xA0000102) 7) (0 ∷ 0 ∷ 0x80000002 ∷ 0x90000000 ∷ 0x9FFFFFFF ∷ 0xA0000102 ∷ 0xB000002D ∷ 0xC000012C ∷ 0 ∷ [])
+    ∷ row (converts (take 4 (old_book 0x80000001 0x90000229 0xA0000001)) 5) (6 ∷ 4 ∷ zeros 5)
+    ∷ row (converts (old_book 0x80000003 0x80000229 0xA0000001) 5) (6 ∷ 5 ∷ zeros 5)
+    ∷ row (converts (old_book 0x80000002 0x80000229 0xA0000103) 6) (8 ∷ 1 ∷ zeros 6)
+    ∷ row (converts (old_book 0x80000002 0x90000229 0xA0000103) 6) (8 ∷ 2 ∷ zeros 6)
+    ∷ row (year listing brings_more) (45 ∷ 0 ∷ 82500 ∷ 0 ∷ brings_more_after_two)
     ∷ row (logged_test 2 1 (100 ∷ 50 ∷ 30 ∷ []) (10 ∷ 10 ∷ []) (8000 ∷ [])) (0 ∷ 0 ∷ 72 ∷ 0 ∷ [])
     ∷ row (logged_test 3 2 densities areas discounts) (0 ∷ 0 ∷ 2153 ∷ 0 ∷ [])
     ∷ row (logged_test 3 2 (zeros 8) areas discounts) (0 ∷ 0 ∷ 0 ∷ 1 ∷ [])

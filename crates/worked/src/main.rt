@@ -253,7 +253,7 @@ fn worked(rt: &impl Print) {
         0x5271_01f4,
         0x6505_ff9c,
     ];
-    let mut b = [0u32; 5];
+    let mut b = [0u32; 6];
     let mut x = [0u32; 3];
     unopened(rt, &l[..6], &mut b, &mut x);
     year(rt, &l[..6], &mut b, &mut x, 0);
@@ -285,7 +285,7 @@ fn neighbours(rt: &impl Print) {
         0x4101_07d0,
         0x5271_01f4,
     ];
-    let mut b = [0u32; 8];
+    let mut b = [0u32; 9];
     let mut x = [0u32; 6];
     second_cell_year(rt, &l, &mut b, &mut x);
     l[6] = 0x4101_07d0;
@@ -295,7 +295,7 @@ fn neighbours(rt: &impl Print) {
 
 // A listing of one cell: open, so many years with their issues, and the mm left.
 fn years(rt: &impl Print, name: &str, count: u32, l: &[u32]) {
-    let mut b = [0u32; 5];
+    let mut b = [0u32; 6];
     let mut x = [0u32; 3];
     print_outcome(rt, name, ledger::open(l, &mut b));
     for _ in 0..count {
@@ -375,6 +375,67 @@ fn benchmark(rt: &impl Print) {
         0x5271_01f4,
     ];
     years(rt, "open with three rows of 45 cm", 3, &l);
+}
+
+// What is refused of a conversion: an old book that is too short, a new one that is, then the words of the old one.
+fn refused_conversions(rt: &impl Print, l: &[u32], b: &mut [u32]) {
+    let mut old = [
+        0x8000_0002u32,
+        0x8000_0229,
+        0xa000_0103,
+        0xb000_002d,
+        0xc000_012c,
+    ];
+    let mut short = [0u32; 5];
+    print_outcome(
+        rt,
+        "old book of 4 words",
+        ledger::convert(l, &old[..4], &mut short),
+    );
+    print_outcome(
+        rt,
+        "new book of 5 words",
+        ledger::convert(l, &old, &mut short),
+    );
+    print_outcome(rt, "tonnes of kind 8", ledger::convert(l, &old, b));
+    old[1] = 0x9fff_ffff;
+    print_outcome(rt, "plan year 3", ledger::convert(l, &old, b));
+}
+
+// Conversions of books with one word of tonnes issued: one after the worked listing's first year, and its
+// second year; then one at the horizon that is withdrawn and brings the most tonnes.
+fn conversions(rt: &impl Print) {
+    let l = [
+        0x1001_0102u32,
+        0x2014_190c,
+        0x3460_b554,
+        0x3460_b400,
+        0x4001_07d0,
+        0x5271_01f4,
+    ];
+    let mut old = [
+        0x8000_0001u32,
+        0x9000_0229,
+        0xa000_0001,
+        0xb000_002d,
+        0xc000_012c,
+    ];
+    let mut b = [0u32; 6];
+    let mut x = [0u32; 3];
+    print_outcome(rt, "convert", ledger::convert(&l, &old, &mut b));
+    year(rt, &l, &mut b, &mut x, 0);
+    refused_conversions(rt, &l, &mut b);
+    old[0] = 0x8000_0002;
+    old[1] = 0x9fff_ffff;
+    old[2] = 0xa000_0102;
+    print_outcome(
+        rt,
+        "convert at the horizon",
+        ledger::convert(&l, &old, &mut b),
+    );
+    print_amount(rt, "issue", ledger::issue(&l, &mut b));
+    print_outcome(rt, "withdraw again", ledger::withdraw(&l, &mut b, 0));
+    print_left(rt, "left", &l, &b[..], 0);
 }
 
 // Two years of one stratum, with none taken off.
@@ -499,6 +560,7 @@ fn main(rt: HostRuntime) {
     misplaced_site(&rt);
     char_left(&rt);
     benchmark(&rt);
+    conversions(&rt);
     blocks(&rt);
     block_sizes(&rt);
     block_lengths(&rt);

@@ -1,8 +1,10 @@
-//! "Book and calls": each call as the list of its checks in the table's order, then what it does.
+//! "Book and calls", and the conversion of a book of document 02's "A thousand cells": each call as
+//! the list of its checks in the table's order, then what it does.
 
 use super::balance::balance;
 use super::book::{
-    current_year, entry, issued, write_current_year, write_entry, write_issued, Entry,
+    current_year, entry, issued, write_current_year, write_entry, write_issued, Entry, NEW_SHAPE,
+    OLD_SHAPE,
 };
 use super::lines::{lines_words, read_lines, write_lines};
 use super::listing::{cells, conversion_year, entered_depth, horizon};
@@ -18,7 +20,7 @@ use crate::{Account, Answer, Total};
 /// Where open stops.
 fn stop_open(listing: &[u32], book: &[u32]) -> Result<(), Answer> {
     stop_at_listing(listing)?;
-    stop(6, book_too_short(listing, book))
+    stop(6, book_too_short(NEW_SHAPE, listing, book))
 }
 
 /// "Open: writes year 0, 0 issued, plan years of the listing, nothing withdrawn, zeros."
@@ -41,12 +43,35 @@ pub fn open(listing: &[u32], book: &mut [u32]) -> Answer {
     accepted(0)
 }
 
+/// Where convert stops: "It refuses by 1 to 5, then by 6 for the old book's length, then by 6 for
+/// the new one's, then by 8 as the old book would."
+fn stop_convert(listing: &[u32], old: &[u32], new: &[u32]) -> Result<(), Answer> {
+    stop_at_listing(listing)?;
+    stop(6, book_too_short(OLD_SHAPE, listing, old))?;
+    stop(6, book_too_short(NEW_SHAPE, listing, new))?;
+    stop(8, wrong_book_word(OLD_SHAPE, listing, old))
+}
+
+/// "A book of the old shape is converted without loss by a call of its own, into a second lent
+/// slice."
+pub fn convert(listing: &[u32], old: &[u32], new: &mut [u32]) -> Answer {
+    if let Err(refusal) = stop_convert(listing, old, new) {
+        return refusal;
+    }
+    write_current_year(new, current_year(old));
+    write_issued(new, issued(OLD_SHAPE, old));
+    for cell in 0..cells(listing) {
+        write_entry(new, cell, &entry(OLD_SHAPE, old, cell));
+    }
+    accepted(0)
+}
+
 /// Where close stops.
 fn stop_close(listing: &[u32], book: &[u32], lines: &[u32]) -> Result<(), Answer> {
     stop_at_listing(listing)?;
-    stop(6, book_too_short(listing, book))?;
+    stop(6, book_too_short(NEW_SHAPE, listing, book))?;
     stop(7, lines_too_short(listing, lines))?;
-    stop(8, wrong_book_word(listing, book))?;
+    stop(8, wrong_book_word(NEW_SHAPE, listing, book))?;
     stop(9, at_the_horizon(listing, book))?;
     stop(14, kg_line_too_great(listing, book))
 }
@@ -59,7 +84,7 @@ pub fn close(listing: &[u32], book: &mut [u32], lines: &mut [u32]) -> Answer {
     }
     let year = current_year(book) + 1;
     for cell in 0..cells(listing) {
-        let mut entry = entry(book, cell);
+        let mut entry = entry(NEW_SHAPE, book, cell);
         let of_year = lines_of_year(listing, cell, &entry, year);
         write_lines(lines, cell, &of_year);
         entry.oxidised += of_year.oxidised;
@@ -73,8 +98,8 @@ pub fn close(listing: &[u32], book: &mut [u32], lines: &mut [u32]) -> Answer {
 /// Where replan stops.
 fn stop_replan(listing: &[u32], book: &[u32], cell: i128, year: i128) -> Result<(), Answer> {
     stop_at_listing(listing)?;
-    stop(6, book_too_short(listing, book))?;
-    stop(8, wrong_book_word(listing, book))?;
+    stop(6, book_too_short(NEW_SHAPE, listing, book))?;
+    stop(8, wrong_book_word(NEW_SHAPE, listing, book))?;
     stop(10, no_such_cell(listing, cell))?;
     stop(11, cell_withdrawn(book, cell))?;
     stop(12, already_converted(book, cell))?;
@@ -87,7 +112,7 @@ pub fn replan(listing: &[u32], book: &mut [u32], cell: usize, year: u32) -> Answ
     if let Err(refusal) = stop_replan(listing, book, cell, year) {
         return refusal;
     }
-    let mut entry = entry(book, cell);
+    let mut entry = entry(NEW_SHAPE, book, cell);
     entry.plan_year = year;
     write_entry(book, cell, &entry);
     accepted(0)
@@ -96,8 +121,8 @@ pub fn replan(listing: &[u32], book: &mut [u32], cell: usize, year: u32) -> Answ
 /// Where withdraw stops.
 fn stop_withdraw(listing: &[u32], book: &[u32], cell: i128) -> Result<(), Answer> {
     stop_at_listing(listing)?;
-    stop(6, book_too_short(listing, book))?;
-    stop(8, wrong_book_word(listing, book))?;
+    stop(6, book_too_short(NEW_SHAPE, listing, book))?;
+    stop(8, wrong_book_word(NEW_SHAPE, listing, book))?;
     stop(10, no_such_cell(listing, cell))?;
     stop(11, cell_withdrawn(book, cell))
 }
@@ -108,7 +133,7 @@ pub fn withdraw(listing: &[u32], book: &mut [u32], cell: usize) -> Answer {
     if let Err(refusal) = stop_withdraw(listing, book, cell) {
         return refusal;
     }
-    let mut entry = entry(book, cell);
+    let mut entry = entry(NEW_SHAPE, book, cell);
     entry.withdrawn = true;
     write_entry(book, cell, &entry);
     accepted(0)
@@ -117,8 +142,8 @@ pub fn withdraw(listing: &[u32], book: &mut [u32], cell: usize) -> Answer {
 /// Where issue stops.
 fn stop_issue(listing: &[u32], book: &[u32]) -> Result<(), Answer> {
     stop_at_listing(listing)?;
-    stop(6, book_too_short(listing, book))?;
-    stop(8, wrong_book_word(listing, book))
+    stop(6, book_too_short(NEW_SHAPE, listing, book))?;
+    stop(8, wrong_book_word(NEW_SHAPE, listing, book))
 }
 
 /// "Issue answers balance − issued, or 0 if that is negative, and adds its answer to issued."
@@ -128,14 +153,15 @@ pub fn issue(listing: &[u32], book: &mut [u32]) -> Answer {
     }
     let kilograms = all_kilograms_to_date(listing, book);
     let balance = balance(listing, current_year(book), kilograms);
-    let tonnes = (balance - issued(book)).max(0);
-    write_issued(book, issued(book) + tonnes);
+    let issued = issued(NEW_SHAPE, book);
+    let tonnes = (balance - issued).max(0);
+    write_issued(book, issued + tonnes);
     accepted(tonnes)
 }
 
 /// A cell's kg to date: the emission of the O and B that the book holds.
 fn kilograms_to_date(listing: &[u32], book: &[u32], cell: i128) -> i128 {
-    let entry = entry(book, cell);
+    let entry = entry(NEW_SHAPE, book, cell);
     emission(listing, cell, entry.oxidised, entry.burned)
 }
 
@@ -149,8 +175,8 @@ fn all_kilograms_to_date(listing: &[u32], book: &[u32]) -> i128 {
 /// Where statement stops.
 fn stop_statement(listing: &[u32], book: &[u32], cell: i128) -> Result<(), Answer> {
     stop_at_listing(listing)?;
-    stop(6, book_too_short(listing, book))?;
-    stop(8, wrong_book_word(listing, book))?;
+    stop(6, book_too_short(NEW_SHAPE, listing, book))?;
+    stop(8, wrong_book_word(NEW_SHAPE, listing, book))?;
     stop(10, no_such_cell(listing, cell))
 }
 
@@ -164,7 +190,7 @@ pub fn statement(listing: &[u32], book: &[u32], cell: usize) -> Account {
             ..Account::default()
         };
     }
-    let entry = entry(book, cell);
+    let entry = entry(NEW_SHAPE, book, cell);
     Account {
         number: 0,
         place: 0,
@@ -181,7 +207,7 @@ pub fn statement(listing: &[u32], book: &[u32], cell: usize) -> Account {
 /// Where forecast stops.
 fn stop_forecast(listing: &[u32], book: &[u32], output: &[u64]) -> Result<(), Answer> {
     stop_at_listing(listing)?;
-    stop(6, book_too_short(listing, book))?;
+    stop(6, book_too_short(NEW_SHAPE, listing, book))?;
     stop(15, output_too_short(listing, output))
 }
 

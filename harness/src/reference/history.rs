@@ -1,27 +1,31 @@
-//! "Lists of calls": the four claims of demand 3, read off what was returned and off the
-//! listing, never off the book.
+//! "Lists of calls", and of document 02 a list that starts from a converted book: the four claims
+//! of demand 3, read off what was returned and off the listing, never off the book; what a
+//! converted book brings is read off the book of the old shape that was converted.
 
 use super::balance::balance;
+use super::book::{current_year, entry, issued, OLD_SHAPE};
 use super::lines::read_lines;
 use super::listing::{cells, conversion_year, entered_depth, guard};
 use super::words::index;
 use super::year::{d_of_year, emission, is_converted};
 use crate::Account;
 
-/// What a list of calls has returned since the open it starts from.
+/// What a list of calls has returned since the open or the conversion it starts from, what a
+/// converted book brings counting as returned before.
 pub struct History {
     listing: Vec<u32>,
-    /// Accepted closings.
+    /// Accepted closings, with a converted book's current year as that many.
     closings: u32,
     /// What is known of each cell.
     of_cells: Vec<OfCell>,
-    /// The answers of all issues, added.
+    /// The answers of all issues, added, with the issued tonnes of a converted book as one of them.
     tonnes_issued: i128,
-    /// The highest balance met at an issue; none before the first issue.
+    /// The highest balance met at an issue, with the issued tonnes of a converted book as one met;
+    /// none before the first issue of an opened one.
     highest_balance: Option<i128>,
 }
 
-/// A cell's plan year, and the sums of the lines returned for it.
+/// A cell's plan year, and the sums of the lines returned for it, or brought as such.
 struct OfCell {
     plan_year: i128,
     oxidised: i128,
@@ -51,6 +55,32 @@ impl History {
             of_cells: (0..cells(listing)).map(nothing).collect(),
             tonnes_issued: 0,
             highest_balance: None,
+        }
+    }
+
+    /// "A list of calls may start from a converted book too, as an accepted conversion wrote it,
+    /// and then takes that conversion's listing." `old` is the book that was converted. "The O, B,
+    /// their emission and the issued tonnes that it brings then count as lines and an issue handed
+    /// out before, and its issued tonnes as a balance met there. Its current year counts as that
+    /// many accepted closings, its plan years stand in for the listing's".
+    ///
+    /// "the margin is asked of the fires that follow": a B that it brings is no fire.
+    pub fn converted(listing: &[u32], old: &[u32]) -> History {
+        let brought = |cell: i128| {
+            let entry = entry(OLD_SHAPE, old, cell);
+            OfCell {
+                plan_year: entry.plan_year,
+                oxidised: entry.oxidised,
+                burned: entry.burned,
+                kilograms: emission(listing, cell, entry.oxidised, entry.burned),
+            }
+        };
+        History {
+            listing: listing.to_vec(),
+            closings: current_year(old).try_into().unwrap(),
+            of_cells: (0..cells(listing)).map(brought).collect(),
+            tonnes_issued: issued(OLD_SHAPE, old),
+            highest_balance: Some(issued(OLD_SHAPE, old)),
         }
     }
 
@@ -92,7 +122,8 @@ impl History {
         }
     }
 
-    /// "A cell's plan year in it is that of the cell's last accepted replan before that closing".
+    /// "A cell's plan year in it is that of the cell's last accepted replan before that closing",
+    /// and until its first one the listing's, or the converted book's.
     pub fn replanned(&mut self, cell: usize, year: u32) {
         self.of_cells[cell].plan_year = i128::from(year);
     }
@@ -108,7 +139,8 @@ impl History {
         balance
     }
 
-    /// "the count of accepted closings" so far.
+    /// "the count of accepted closings" so far, a converted book's current year counting "as that
+    /// many".
     pub fn closings(&self) -> u32 {
         self.closings
     }
@@ -120,7 +152,7 @@ impl History {
     }
 
     /// Depth: the statement after the list is accepted, and what it says remains, with all
-    /// oxidised and burned lines returned for the cell, makes its entered depth.
+    /// oxidised and burned lines returned for the cell, or brought as such, makes its entered depth.
     pub fn depth_holds(&self, cell: usize, account: &Account) -> bool {
         let sums = &self.of_cells[cell];
         let entered = entered_depth(&self.listing, cell.try_into().unwrap());
@@ -137,7 +169,7 @@ impl History {
     }
 
     /// Issues: all tonnes issued together are the highest balance met at an issue, or 0 where no
-    /// issue met a balance above 0.
+    /// issue met a balance above 0; what a converted book brings as issued is among both.
     pub fn issues_hold(&self) -> bool {
         self.tonnes_issued == self.highest_balance.unwrap_or(0).max(0)
     }

@@ -2,8 +2,8 @@
 
 use super::words::{at, bits, index, kind, length};
 
-/// The most cells a listing may have.
-pub const MOST_CELLS: i128 = 256;
+/// The most cells a listing may have: "The head allows 1 to 1,000 cells."
+pub const MOST_CELLS: i128 = 1_000;
 
 /// Words that every listing starts with: word 0 and word 1.
 pub const HEAD_WORDS: i128 = 2;
@@ -28,7 +28,7 @@ pub fn horizon(listing: &[u32]) -> i128 {
     bits(at(listing, 0), 7, 0)
 }
 
-/// Kind 1, "cells (1–256)", "strata (1–16)", "horizon in years (1–100)"; every bit is named.
+/// Kind 1, "1 to 1,000 cells", "strata (1–16)", "horizon in years (1–100)"; every bit is named.
 pub fn word_0_is_valid(listing: &[u32]) -> bool {
     kind(at(listing, 0)) == 1
         && (1..=MOST_CELLS).contains(&cells(listing))

@@ -1,14 +1,15 @@
 //! The program `peatrun`: "reads little-endian words from standard input, closes every year and
 //! issues after each".
 
-use super::book::book_words;
+use super::book::{book_words, NEW_SHAPE};
 use super::calls::{close, issue, open, statement};
 use super::lines::{lines_words, read_lines, Lines};
 use super::listing::{cells, horizon, MOST_CELLS};
 use super::words::index;
 
-/// "`peatrun` takes up to 11,260 bytes"
-const MOST_BYTES: usize = 11_260;
+/// "The `peatrun` limit becomes the longest listing the new head allows,
+/// (3 + 1,600 + 2,000 + 700) × 4 = 17,212 bytes."
+const MOST_BYTES: usize = (3 + 1_600 + 2_000 + 700) * 4;
 
 /// What the program prints: "`too long`" above the most bytes, "else `odd bytes` if not a multiple
 /// of 4", else what the listing gives.
@@ -28,7 +29,7 @@ pub fn program(input: &[u8]) -> String {
 /// "Where the listing is refused it prints one line: the word refused, its number and its place,
 /// single spaces between." Else the heading, a line for each year, and what is left.
 fn listing_printed(listing: &[u32]) -> String {
-    let mut book = vec![0; index(book_words(MOST_CELLS))];
+    let mut book = vec![0; index(book_words(NEW_SHAPE, MOST_CELLS))];
     let opened = open(listing, &mut book);
     if opened.number != 0 {
         return format!("refused {} {}\n", opened.number, opened.place);

@@ -1,7 +1,8 @@
-//! "Where a call stops", and of document 02 the numbers 21 to 24, and 16 and 17 of a dip: a
-//! function for each number, answering the lowest place where it is met.
+//! "Where a call stops", and of document 02 the numbers 21 to 24, 16 and 17 of a dip, and 6 of a
+//! book of the new shape: a function for each number, answering the lowest place where it is met.
+//! What 6 and 8 ask goes by the book's shape, new or old.
 
-use super::book::{book_words, current_year, entry, word_is_valid};
+use super::book::{book_words, current_year, entry, word_is_valid, Shape, NEW_SHAPE};
 use super::lines::lines_words;
 use super::listing::{
     cells, fewest_words, horizon, later_word_is_valid, term_is_above, word_0_is_valid,
@@ -86,9 +87,10 @@ fn term_not_above(listing: &[u32]) -> Option<i128> {
         .find(|&place| !term_is_above(at(listing, place), at(listing, place - 1)))
 }
 
-/// 6: "book below 2 + 3 × cells words", place: its length.
-pub fn book_too_short(listing: &[u32], book: &[u32]) -> Option<i128> {
-    (length(book) < book_words(cells(listing))).then_some(length(book))
+/// 6: "Number 6 asks for 3 + 3 × cells words of a new book", and of an old one: "book below
+/// 2 + 3 × cells words". Place: its length.
+pub fn book_too_short(shape: Shape, listing: &[u32], book: &[u32]) -> Option<i128> {
+    (length(book) < book_words(shape, cells(listing))).then_some(length(book))
 }
 
 /// 7: "lines below 3 × cells words (close)", place: its length.
@@ -97,8 +99,9 @@ pub fn lines_too_short(listing: &[u32], lines: &[u32]) -> Option<i128> {
 }
 
 /// 8: "word wrong as described above; a bad sum counts at kind 12", place: index.
-pub fn wrong_book_word(listing: &[u32], book: &[u32]) -> Option<i128> {
-    (0..book_words(cells(listing))).find(|&place| !word_is_valid(listing, book, place))
+pub fn wrong_book_word(shape: Shape, listing: &[u32], book: &[u32]) -> Option<i128> {
+    let words = book_words(shape, cells(listing));
+    (0..words).find(|&place| !word_is_valid(shape, listing, book, place))
 }
 
 /// 9: "close at the horizon", place 0.
@@ -113,13 +116,13 @@ pub fn no_such_cell(listing: &[u32], cell: i128) -> Option<i128> {
 
 /// 11: "cell withdrawn (replan, withdraw)", place 0.
 pub fn cell_withdrawn(book: &[u32], cell: i128) -> Option<i128> {
-    entry(book, cell).withdrawn.then_some(0)
+    entry(NEW_SHAPE, book, cell).withdrawn.then_some(0)
 }
 
 /// 12: "plan year from 1 to current (replan)", place 0.
 pub fn already_converted(book: &[u32], cell: i128) -> Option<i128> {
     (1..=current_year(book))
-        .contains(&entry(book, cell).plan_year)
+        .contains(&entry(NEW_SHAPE, book, cell).plan_year)
         .then_some(0)
 }
 
@@ -132,7 +135,10 @@ pub fn wrong_new_year(listing: &[u32], book: &[u32], year: i128) -> Option<i128>
 /// 14: "a kg line above 268,435,455 (close)", place: cell.
 pub fn kg_line_too_great(listing: &[u32], book: &[u32]) -> Option<i128> {
     let year = current_year(book) + 1;
-    let kg_line = |cell| lines_of_year(listing, cell, &entry(book, cell), year).kilograms;
+    let kg_line = |cell| {
+        let entry = entry(NEW_SHAPE, book, cell);
+        lines_of_year(listing, cell, &entry, year).kilograms
+    };
     (0..cells(listing)).find(|&cell| kg_line(cell) > GREATEST_KG_LINE)
 }
 

@@ -1,5 +1,4 @@
 -- `book::check_book` meets its contract: its test is the definition's. Assumes nothing.
-use mathlib.Core.Path.{◌∙◌}
 use Rattle.words.proofs.Answers.{found_by}
 use Rattle.book.specs.Check.{book_checked}
 use Rattle.book.proofs.check_book.Goals as goal

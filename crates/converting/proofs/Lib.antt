@@ -1,0 +1,3 @@
+-- Laws of what a conversion writes.
+pub mod Convertible
+pub mod Converted

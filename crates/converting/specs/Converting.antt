@@ -1,0 +1,16 @@
+-- Document 02: a book of one shape is converted without loss, into a second lent slice, to one of another shape: what a conversion of listing l
+-- and book `old` into a slice `new` answers and writes, of shape `from` to shape `to`.
+use Rattle.std.specs.Prelude.{List, ℕ}
+use Rattle.words.specs.Answers.{Answer, after}
+use Rattle.book.specs.Layout.{year, issued, entry}
+use Rattle.book.specs.Check.{capacity_checked, fitted, book_checked}
+use Rattle.book.specs.Held.{new_book}
+use Rattle.book.specs.declared.Shape.{Shape}
+
+-- it refuses by 1 to 5, then by 6 for the old book's length, then by 6 for the new one's, then by 8 as the old book would
+unfoldable pub convert_answer : Shape → Shape → List ℕ → List ℕ → List ℕ → Answer
+convert_answer from to l old new = after (fitted from l old) (after (capacity_checked to l new) (book_checked from l old))
+
+-- year, tonnes issued and the entry of each cell are those of the old book; the words beyond those needed are untouched
+abbrev pub converted_book : Shape → Shape → List ℕ → List ℕ → List ℕ → List ℕ
+converted_book from to l old new = new_book to l new (year old) (issued from old) (entry from old)

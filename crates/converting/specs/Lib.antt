@@ -1,0 +1,3 @@
+-- What the contracts of converting, and of the crates above it, cite.
+pub mod Converting
+pub mod Convertible
