@@ -11,7 +11,7 @@
  * 23 of word 1 are the percentage of the burned carbon that is left as char. A drainage of the tables counts from the
  * surface at conversion, and what a cell has lost since is taken off. Tables made for earlier releases, which counted
  * from each year's surface, must be restated (docs/GUIDE.md); no call can tell which rule a table was made for. The
- * library keeps nothing between calls and allocates nothing.
+ * library keeps nothing between calls and allocates nothing; a call takes at most 40,000 bytes of the stack (a forecast).
  *
  * Slices. An array is passed as a pointer and its length in elements, not bytes. Any length and any contents get an
  * answer, but the caller sees to it that

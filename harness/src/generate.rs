@@ -2,7 +2,10 @@
 //! damaged.
 use crate::loss::{CellYear, Rule};
 use crate::met::PAST;
-use crate::site::{part, Cell, Row, Site, SiteWord, YearlyTerm};
+use crate::reference;
+use crate::site::{
+    head_words, part, Cell, Row, Site, SiteWord, YearlyTerm, BOOK_HEAD, OLD_BOOK_HEAD,
+};
 use crate::{Reading, Recording};
 
 pub struct Random(pub u64);
@@ -56,6 +59,8 @@ const TERMS: [u32; 7] = [1, 3, 4, 5, 6, 7, 8];
 /// Mostly a few cells and years; one in a hundred with some figure at its end of range.
 fn size(random: &mut Random) -> Size {
     let edge = random.once_in(100);
+    // The most cells, or about as many as eight bits count.
+    let many_cells = random.pick(&[255, 256, 257, 1_000]);
     let mut figure = |most, end| {
         if edge && random.once_in(2) {
             end
@@ -64,7 +69,7 @@ fn size(random: &mut Random) -> Size {
         }
     };
     Size {
-        cells: figure(6, 256),
+        cells: figure(6, many_cells),
         strata: figure(4, 16),
         horizon: figure(8, 100),
         terms: figure(60, 100),
@@ -73,18 +78,18 @@ fn size(random: &mut Random) -> Size {
 
 /// A good site of any size, now and then one with the greatest balances.
 pub fn any_site(random: &mut Random) -> Site {
-    if random.once_in(400) {
+    if random.once_in(300) {
         return richest(random);
     }
     let size = size(random);
     site(random, size)
 }
 
-/// Nearly the most cells, all of the most peat and carbon, and at times the greatest terms. From an open no cell loses
-/// more than 2,550 mm, and no balance is above 72,508,740 tonnes; that of a lent book may come near 254,770,500.
-fn richest(random: &mut Random) -> Site {
+/// Many cells, all of the most peat and carbon, and at times the greatest terms. From an open no cell loses more than
+/// 2,550 mm, and no balance is above 149,914,500 tonnes; that of a lent or converted book may come near 861,874,500.
+pub fn richest(random: &mut Random) -> Site {
     let size = Size {
-        cells: random.between(200, 256),
+        cells: random.between(400, 1_000),
         strata: random.between(1, 16),
         horizon: random.between(10, 60),
         terms: random.between(1, 100),
@@ -259,9 +264,14 @@ fn terms(random: &mut Random, size: Size) -> Vec<YearlyTerm> {
     terms
 }
 
-/// The longest listing there is, 2,815 words. The water of each stratum falls by 16 mm a year and its
-/// oxidation stays as it is, so that cells still lose in late years; each may burn every tenth year.
+/// The longest listing there is, 4,303 words.
 pub fn largest() -> Site {
+    largest_of(1_000)
+}
+
+/// The same with so many cells. The water of each stratum falls by 16 mm a year and its oxidation stays as it is, so that
+/// cells still lose in late years; each may burn every tenth year.
+pub fn largest_of(cells: u32) -> Site {
     let random = &mut Random(2_814);
     let tables = (0..16).map(|_| {
         let [at_conversion, oxidation] = [random.between(40, 90), random.between(20, 60)];
@@ -287,7 +297,7 @@ pub fn largest() -> Site {
             thickness: 250,
         }),
         tables: tables.collect(),
-        cells: (0..256).map(|_| hectare(random)).collect(),
+        cells: (0..cells).map(|_| hectare(random)).collect(),
         terms: every_term(random),
     }
 }
@@ -318,10 +328,56 @@ fn every_term(random: &mut Random) -> Vec<YearlyTerm> {
 /// A book that every call accepts, with some words beyond those needed.
 pub fn book(random: &mut Random, site: &Site) -> Vec<u32> {
     let current = random.between(0, site.horizon);
-    let issued = random.pick(&[0, 1_000, 1_000_000, 0x0FFF_FFFF]);
-    let issued = random.between(0, issued);
-    let mut book = vec![8 << 28 | current, 9 << 28 | issued];
-    let all_burned = random.once_in(5);
+    book_with(random, site, BOOK_HEAD, current)
+}
+
+/// One of the old shape that a conversion accepts, mostly of an early year, so that many closings may follow.
+pub fn old_book(random: &mut Random, site: &Site) -> Vec<u32> {
+    let latest = random.between(0, site.horizon);
+    let current = random.between(0, latest);
+    book_with(random, site, OLD_BOOK_HEAD, current)
+}
+
+/// The two shapes differ in the words of their heads alone.
+fn book_with(random: &mut Random, site: &Site, head: usize, current: u32) -> Vec<u32> {
+    let cells = book_cells(random, site, current);
+    let tonnes = tonnes_issued(random, head, || balance(site, current, &cells));
+    let mut book = head_words(head, current, tonnes);
+    book.extend(cells);
+    let beyond = random.below(4);
+    book.extend(random.words(beyond));
+    book
+}
+
+/// None, as many as the head holds, any, around 2^28 or above it, or around the balance; bits that do not fit are cut off.
+fn tonnes_issued(random: &mut Random, head: usize, balance: impl Fn() -> u64) -> u64 {
+    let bits = 28 * (head as u32 - 1);
+    let most = (1 << bits) - 1;
+    let any = random.draw() & most;
+    let one_more_or_less = u64::from(random.between(0, 2));
+    let around = |tonnes: u64| (tonnes + one_more_or_less).saturating_sub(1);
+    let tonnes = match random.between(0, 9) {
+        0 => 0,
+        1 => most,
+        2..=4 => any >> random.between(0, bits - 1),
+        5 => around(1 << 28),
+        6 => u64::from(random.between(1 << 28, 1 << 30)),
+        _ => around(balance()),
+    };
+    tonnes & most
+}
+
+/// The balance of a book, or 0 where that is negative: what an issue pays where nothing is issued.
+fn balance(site: &Site, current: u32, cells: &[u32]) -> u64 {
+    let mut book = head_words(BOOK_HEAD, current, 0);
+    book.extend(cells);
+    u64::from(reference::issue(&site.words(), &mut book).value)
+}
+
+/// The words of a book's cells in some year; now and then all of the peat has burned.
+fn book_cells(random: &mut Random, site: &Site, current: u32) -> Vec<u32> {
+    let all_burned = random.once_in(8);
+    let mut words = Vec::new();
     for cell in &site.cells {
         let plan_year = random.between(0, site.horizon);
         let (lost, burned) = if all_burned {
@@ -331,15 +387,13 @@ pub fn book(random: &mut Random, site: &Site) -> Vec<u32> {
             (lost, figure(random, 0, lost))
         };
         let withdrawn = u32::from(random.once_in(5));
-        book.extend([
+        words.extend([
             10 << 28 | withdrawn << 8 | plan_year,
             11 << 28 | (lost - burned),
             12 << 28 | burned,
         ]);
     }
-    let beyond = random.below(4);
-    book.extend(random.words(beyond));
-    book
+    words
 }
 
 /// O + B of a cell in an accepted book is at most this.
@@ -351,7 +405,8 @@ fn most_lost(site: &Site, cell: &Cell) -> u32 {
     }
 }
 
-/// Any mm, or so many that d of the year to be closed is about 0, or about the guard.
+/// Any mm, or so many that d of the year to be closed is about 0, about the guard or above it. A cell that is not
+/// converted by then has often lost nothing.
 fn lost_before(random: &mut Random, site: &Site, cell: &Cell, plan_year: u32, year: u32) -> u32 {
     let most = most_lost(site, cell);
     let table = &site.tables[cell.stratum as usize];
@@ -361,10 +416,13 @@ fn lost_before(random: &mut Random, site: &Site, cell: &Cell, plan_year: u32, ye
             .checked_sub(plan_year)
             .and_then(|age| table.get(age as usize)),
     };
-    match row {
-        Some(row) if random.once_in(2) => {
-            let level = 10 * row.drainage;
-            let mark = random.pick(&[level, level.saturating_sub(site.guard())]);
+    let level = row.map_or(0, |row| 10 * row.drainage);
+    let guard_level = level.saturating_sub(site.guard());
+    match (row, random.between(0, 3)) {
+        (None, 0 | 1) => 0,
+        (Some(_), 0) => random.between(0, guard_level).min(most),
+        (Some(_), 1) => {
+            let mark = random.pick(&[level, guard_level]);
             (mark + random.between(0, 2)).saturating_sub(1).min(most)
         }
         _ => figure(random, 0, most),
@@ -427,7 +485,7 @@ pub fn past_range(random: &mut Random, site: &Site) -> (Vec<u32>, &'static str) 
 fn past_size(which: &str, word: &mut u32) {
     let (low, width, figure) = match which {
         "cells 0" => (16, 12, 0),
-        "cells 257" => (16, 12, 257),
+        "cells 1,001" => (16, 12, 1_001),
         "strata 0" => (8, 8, 0),
         "strata 17" => (8, 8, 17),
         "horizon 0" => (0, 8, 0),
@@ -485,6 +543,7 @@ pub fn damage(random: &mut Random, words: &mut Vec<u32>) {
 #[derive(Clone, Copy, Debug)]
 pub enum Call {
     Open,
+    Convert,
     Close { lines: usize },
     Replan { cell: usize, year: u32 },
     Withdraw { cell: usize },
@@ -497,6 +556,7 @@ impl Call {
     pub fn name(self) -> &'static str {
         match self {
             Call::Open => "open",
+            Call::Convert => "convert",
             Call::Close { .. } => "close",
             Call::Replan { .. } => "replan",
             Call::Withdraw { .. } => "withdraw",

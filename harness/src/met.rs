@@ -6,6 +6,7 @@ use std::num::FpCategory;
 /// other may be counted for it; but for 14 of a closing, which is proved not to arise and would fail the test.
 const GROUPS: &[(&str, &[&str])] = &[
     ("open", &["accepted", "1", "2", "3", "4", "5", "6"]),
+    ("convert", &["accepted", "1", "2", "3", "4", "5", "6", "8"]),
     (
         "close",
         &["accepted", "1", "2", "3", "4", "5", "6", "7", "8", "9"],
@@ -42,6 +43,8 @@ const GROUPS: &[(&str, &[&str])] = &[
             "of 100 years",
             "of 1 cell",
             "of 256 cells",
+            "of 257 cells",
+            "of 1,000 cells",
             "with no cell converted",
             "output as long as the horizon",
             "output longer",
@@ -64,8 +67,21 @@ const GROUPS: &[(&str, &[&str])] = &[
             "a term",
         ],
     ),
+    ("6 at", &["the length of an old book", "less"]),
     (
         "8 at",
+        &[
+            "the year",
+            "the first word of tonnes issued",
+            "the second word of tonnes issued",
+            "a plan year",
+            "oxidised mm",
+            "burned mm, by the kind",
+            "burned mm, by the sum",
+        ],
+    ),
+    (
+        "8 of an old book at",
         &[
             "the year",
             "the tonnes issued",
@@ -75,22 +91,31 @@ const GROUPS: &[(&str, &[&str])] = &[
             "burned mm, by the sum",
         ],
     ),
+    (
+        "conversion with",
+        &[
+            "the old book just as long as asked",
+            "the old book longer",
+            "the old book a word short",
+            "the new book just as long as asked",
+            "the new book longer",
+            "the new book a word short",
+            "1 cell",
+            "256 cells",
+            "257 cells",
+            "1,000 cells",
+        ],
+    ),
+    (
+        "on a converted book",
+        &["close", "replan", "withdraw", "issue", "statement"],
+    ),
     ("16 at", &["place 0", "place 1"]),
     ("17 at", &["place 0", "place 1", "place 2"]),
     ("20 at", &["place 0", "place 1", "place 2", "place 3"]),
     ("22 at", &["place 0", "place 1", "place 2"]),
-    (
-        "claim asked",
-        &[
-            "depth",
-            "depth of a cell that lost",
-            "kilograms",
-            "kilograms of a cell that lost",
-            "dry after a fire",
-            "issues",
-            "issues with tonnes paid",
-        ],
-    ),
+    (OPENED.claims, CLAIMS),
+    (CONVERTED.claims, CLAIMS),
     (
         "kg to date of a cell",
         &[
@@ -109,6 +134,11 @@ const GROUPS: &[(&str, &[&str])] = &[
             "6 before 7",
             "7 before 8",
             "8 before 9 to 13",
+            "1 to 5 before 6 of both books",
+            "6 of the old book before 6 of the new one",
+            "6 of the old book before 8 of it",
+            "6 of the new book before 8 of the old one",
+            "8 of several words of the old book",
             "21 before 22",
             "22 in several lists",
             "23 before 24",
@@ -153,8 +183,10 @@ const GROUPS: &[(&str, &[&str])] = &[
             "down to the deepest drainage level so far",
         ],
     ),
-    (OPENED[0], D_AFTER_LOSSES),
-    (OPENED[1], OTHERWISE),
+    (OPENED.d[0], D_AFTER_LOSSES),
+    (OPENED.d[1], OTHERWISE),
+    (CONVERTED.d[0], D_AFTER_LOSSES),
+    (CONVERTED.d[1], OTHERWISE),
     (LENT[0], D_AFTER_LOSSES),
     (LENT[1], OTHERWISE),
     ("burned by", &["b alone", "R alone", "d - guard alone"]),
@@ -165,28 +197,51 @@ const GROUPS: &[(&str, &[&str])] = &[
     ("replan to", &["0", "a year"]),
     ("issue with", &["p 0", "p 100"]),
     (
-        "balance at an issue",
+        OPENED.balances,
         &[
             "below 0",
             "0 to 1,000,000 t",
             "to 30,000,000 t",
-            "to 72,508,740 t",
+            "to 149,914,500 t",
         ],
     ),
+    (CONVERTED.balances, BALANCES),
     (
-        "balance paid, lent book",
-        &["to 72,508,740 t", "to 254,770,500 t"],
-    ),
-    (
-        "balance after a payment",
+        "balance paid, lent",
         &[
-            "fell below what was paid",
-            "fell and rose, not above it",
-            "fell and rose above it",
+            "0 to 1,000,000 t",
+            "to 30,000,000 t",
+            "to 149,914,500 t",
+            "to 268,435,455 t",
+            "to 861,874,500 t",
         ],
     ),
     (
-        "list of calls",
+        "tonnes issued, lent",
+        &[
+            "0",
+            "1 below the balance",
+            "the balance",
+            "1 above the balance",
+            "268,435,455",
+            "268,435,456",
+            "72,057,594,037,927,935",
+        ],
+    ),
+    (
+        "issue of a lent book",
+        &[
+            "that pays, with the first word 0 and then above 0",
+            "that pays, with the first word above 0",
+            "otherwise with the first word alone",
+            "otherwise with the second word alone",
+            "otherwise with the words exchanged",
+        ],
+    ),
+    (OPENED.payments, PAYMENTS),
+    (CONVERTED.payments, PAYMENTS),
+    (
+        OPENED.lists,
         &[
             "empty",
             "with no issue",
@@ -195,10 +250,65 @@ const GROUPS: &[(&str, &[&str])] = &[
         ],
     ),
     (
+        CONVERTED.lists,
+        &[
+            "empty",
+            "with no issue",
+            "with a balance never above what was brought",
+            "with tonnes issued",
+        ],
+    ),
+    (
+        "brought by a conversion",
+        &[
+            "year 0",
+            "a year between",
+            "the horizon",
+            "no tonnes",
+            "268,435,455 t",
+            "other tonnes",
+            "a withdrawn cell",
+            "a cell that lost",
+            "a cell that lost, not converted by then",
+            "a plan year that is not the listing's",
+        ],
+    ),
+    (
+        "issue after a conversion",
+        &[
+            "with no tonnes brought",
+            "with tonnes brought below the balance",
+            "with tonnes brought that are the balance",
+            "with tonnes brought above the balance",
+            "that pays",
+            "that pays, beyond 268,435,455 t",
+            "that pays 0",
+        ],
+    ),
+    (
+        "after a conversion",
+        &[
+            "a fire",
+            "a fire of a cell that lost before",
+            "a fire that would be deeper without what was brought",
+            "lines that would differ without what was brought",
+            "a loss by a plan year that is not the listing's",
+            "a cell that lost before and after",
+            "no loss of a cell, for the mark brought alone",
+            "a replan",
+            "a replan of a cell that lost before",
+            "a withdrawal",
+            "a withdrawal of a cell that lost before",
+            "11 for a mark brought",
+        ],
+    ),
+    (
         "listing with",
         &[
             "1 cell",
             "256 cells",
+            "257 cells",
+            "1,000 cells",
             "1 stratum",
             "16 strata",
             "1 year",
@@ -367,10 +477,82 @@ const GROUPS: &[(&str, &[&str])] = &[
     ),
 ];
 
-/// The groups of a cell that may lose in a closing, where its book was opened and where it was lent: its d, and the
-/// wrong rules by which its lines would be otherwise.
-pub const OPENED: [&str; 2] = ["d after losses, opened", "otherwise with, opened"];
+/// The groups that lists from an open and lists from a conversion have for themselves.
+pub struct ListGroups {
+    pub claims: &'static str,
+    /// Of a cell that may lose in a closing: its d, and the wrong rules by which its lines would be otherwise.
+    pub d: [&'static str; 2],
+    pub balances: &'static str,
+    pub payments: &'static str,
+    pub lists: &'static str,
+}
+
+pub const OPENED: ListGroups = ListGroups {
+    claims: "claim asked, opened",
+    d: ["d after losses, opened", "otherwise with, opened"],
+    balances: "balance at an issue, opened",
+    payments: "balance after a payment, opened",
+    lists: "list of calls, opened",
+};
+
+pub const CONVERTED: ListGroups = ListGroups {
+    claims: "claim asked, converted",
+    d: ["d after losses, converted", "otherwise with, converted"],
+    balances: "balance at an issue, converted",
+    payments: "balance after a payment, converted",
+    lists: "list of calls, converted",
+};
+
+/// The same two groups of d where a book was lent.
 pub const LENT: [&str; 2] = ["d after losses, lent", "otherwise with, lent"];
+
+/// The claims of document 01 on a list of calls.
+const CLAIMS: &[&str] = &[
+    "depth",
+    "depth of a cell that lost",
+    "kilograms",
+    "kilograms of a cell that lost",
+    "dry after a fire",
+    "issues",
+    "issues with tonnes paid",
+];
+
+/// As `balance_row` has them.
+const BALANCES: &[&str] = &[
+    "below 0",
+    "0 to 1,000,000 t",
+    "to 30,000,000 t",
+    "to 149,914,500 t",
+    "to 268,435,455 t",
+    "to 861,874,500 t",
+];
+
+/// No balance from an open is above this: 1,000 cells that burn 2,550 mm, 104,040 tonnes each, and 700 terms of 65,535.
+const HIGHEST_OPENED: i128 = 1_000 * 104_040 + 700 * 65_535;
+
+/// No balance at all is above this: a book that is lent or converted may have 20,000 mm burned, 816,000 tonnes, in each.
+const HIGHEST: i128 = 1_000 * 816_000 + 700 * 65_535;
+
+/// The class of a balance, by its name in the table.
+pub fn balance_row(balance: i128) -> &'static str {
+    let row = match balance {
+        ..=-1 => 0,
+        0..=1_000_000 => 1,
+        1_000_001..=30_000_000 => 2,
+        30_000_001..=HIGHEST_OPENED => 3,
+        _ if balance <= 0x0FFF_FFFF => 4,
+        _ => 5,
+    };
+    assert!(balance <= HIGHEST, "a balance of {balance} t");
+    BALANCES[row]
+}
+
+/// Balances that fell after tonnes were paid for them.
+const PAYMENTS: &[&str] = &[
+    "fell below what was paid",
+    "fell and rose, not above it",
+    "fell and rose above it",
+];
 
 /// d of a cell whose O + B is above 0 at the start of the year.
 const D_AFTER_LOSSES: &[&str] = &[
@@ -408,7 +590,7 @@ const READINGS: &[&str] = &[
 /// A figure of a listing just past an end of its range; `generate::past_range` makes each.
 pub const PAST: &[&str] = &[
     "cells 0",
-    "cells 257",
+    "cells 1,001",
     "strata 0",
     "strata 17",
     "horizon 0",
@@ -544,7 +726,7 @@ impl Met {
 impl fmt::Display for Met {
     fn fmt(&self, f: &mut fmt::Formatter) -> fmt::Result {
         for ((name, rows), counts) in GROUPS.iter().zip(&self.0) {
-            write!(f, "{name:<24}")?;
+            write!(f, "{name:<36}")?;
             for (i, (row, count)) in rows.iter().zip(counts).enumerate() {
                 let comma = if i == 0 { "" } else { ", " };
                 write!(f, "{comma}{row}: {count}")?;

@@ -53,10 +53,54 @@ pub struct Site {
     pub terms: Vec<YearlyTerm>,
 }
 
-/// The words of a book before its cells, those of a cell in it, and the line words of a cell.
-pub const BOOK_HEAD: usize = 2;
+/// The words of a book before its cells, and of an old one, which is converted; those of a cell in it, and the line words
+/// of a cell.
+pub const BOOK_HEAD: usize = 3;
+pub const OLD_BOOK_HEAD: usize = 2;
 pub const BOOK_CELL_WORDS: usize = 3;
 pub const LINE_WORDS: usize = 3;
+
+/// The words of a book's head: its year, and the tonnes issued in the other words, high bits first.
+pub fn head_words(head: usize, year: u32, tonnes: u64) -> Vec<u32> {
+    let mut words = vec![8 << 28 | year];
+    for below in (0..head - 1).rev() {
+        words.push(9 << 28 | (tonnes >> (28 * below)) as u32 & 0x0FFF_FFFF);
+    }
+    words
+}
+
+/// The tonnes issued that a book with such a head says.
+pub fn tonnes_issued(head: usize, book: &[u32]) -> u64 {
+    let number = |word: &u32| u64::from(word & 0x0FFF_FFFF);
+    let words = book[1..head].iter();
+    words.fold(0, |high, word| high << 28 | number(word))
+}
+
+/// What a book says of a cell, in years and mm.
+#[derive(Clone, Copy, Debug, Default, PartialEq)]
+pub struct Entry {
+    pub withdrawn: bool,
+    pub plan: u32,
+    pub oxidised: u32,
+    pub burned: u32,
+}
+
+impl Entry {
+    pub fn lost(&self) -> u32 {
+        self.oxidised + self.burned
+    }
+}
+
+/// Cell after cell; words beyond the last cell may follow as one more.
+pub fn entries(head: usize, book: &[u32]) -> impl Iterator<Item = Entry> + '_ {
+    let entry = |words: &[u32]| Entry {
+        withdrawn: words[0] & 0x100 != 0,
+        plan: words[0] & 0xFF,
+        oxidised: words[1] & 0x0FFF_FFFF,
+        burned: words[2] & 0x0FFF_FFFF,
+    };
+    book[head..].chunks_exact(BOOK_CELL_WORDS).map(entry)
+}
 
 /// The part of a listing in which the word at a place from 2 on is, by the sizes in its word 0 and the kind of its word 2.
 pub fn part(listing: &[u32], place: usize) -> &'static str {
@@ -125,6 +169,10 @@ impl Site {
     /// The words that its book needs, and its lines.
     pub fn book_words(&self) -> usize {
         BOOK_HEAD + BOOK_CELL_WORDS * self.cells.len()
+    }
+
+    pub fn old_book_words(&self) -> usize {
+        OLD_BOOK_HEAD + BOOK_CELL_WORDS * self.cells.len()
     }
 
     pub fn line_words(&self) -> usize {

@@ -30,6 +30,7 @@ impl Tally {
 fn ledger_calls() {
     let random = &mut Random(21);
     let mut tally = Tally::default();
+    let mut high_words = 0;
     for _ in 0..40_000 {
         let site = generate::any_site(random);
         let (mut listing, mut book) = (site.words(), generate::book(random, &site));
@@ -54,6 +55,7 @@ fn ledger_calls() {
         let baseline = BASELINE.issue(&listing, &mut books[0]);
         tally.agree(baseline, reference::issue(&listing, &mut books[1]), &what);
         assert!(books[0] == books[1], "{what}");
+        high_words += u32::from(baseline.value > 0 && books[0][1] != 9 << 28);
         let length = generate::length(random, site.horizon as usize);
         let mut outputs = [vec![7; length], vec![7; length]];
         let baseline = BASELINE.forecast(&listing, &mut books[0], &mut outputs[0]);
@@ -63,6 +65,7 @@ fn ledger_calls() {
         assert!(books[0] == books[1] && outputs[0] == outputs[1], "{what}");
     }
     tally.met((0..=9).chain([15]));
+    assert!(high_words > 0, "no issue paid up to 2^28 t or more");
 }
 
 #[test]

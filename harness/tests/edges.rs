@@ -1,8 +1,9 @@
-//! The worked figures of document 01 and of the requests, the ends of lengths and readings, and the claims on lists where they fail.
+//! The worked figures of document 01 and of the requests, the ends of lengths and readings, converted books, and the
+//! claims on lists where they fail.
 use harness::generate::{self, OwnedRecording, Random};
 use harness::reference::{self, History};
 use harness::sample::{with_site_word, worked_with, CHAR_WORD, NEGATIVE_TERM, SITE_WORD, WORKED};
-use harness::site::{Cell, Row, Site, SiteWord, LINE_WORDS};
+use harness::site::{Cell, Row, Site, SiteWord, YearlyTerm, LINE_WORDS};
 use harness::{
     Account, Answer, DipsAnswer, Ledger, LoggedAnswer, Reading, Total, PROVED, REFERENCE,
 };
@@ -103,10 +104,14 @@ fn one_cell_of(site_word: Option<SiteWord>, row: Row, entered: u32) -> Vec<u32> 
     site.words()
 }
 
+/// The words of a book of one cell, and of one of the old shape.
+const BOOK_OF_ONE: usize = 3 + 3;
+const OLD_BOOK_OF_ONE: usize = 2 + 3;
+
 /// A book of year 0 with one cell that has lost so much.
-fn lent_book([oxidised, burned]: [u32; 2]) -> [u32; 5] {
+fn lent_book([oxidised, burned]: [u32; 2]) -> [u32; BOOK_OF_ONE] {
     let (o, b) = (11 << 28 | oxidised, 12 << 28 | burned);
-    [8 << 28, 9 << 28, 10 << 28 | 1, o, b]
+    [8 << 28, 9 << 28, 9 << 28, 10 << 28 | 1, o, b]
 }
 
 /// The lines of the first year of such a book.
@@ -177,7 +182,7 @@ fn drained_from_the_benchmark() {
 fn closes_as(site: &Site, replan: Option<(usize, u32)>, years: &[[u32; LINE_WORDS]]) {
     let listing = site.words();
     both(|ledger| {
-        let (mut book, mut lines) = ([0; 5], [0; LINE_WORDS]);
+        let (mut book, mut lines) = ([0; BOOK_OF_ONE], [0; LINE_WORDS]);
         assert_eq!((ledger.open)(&listing, &mut book), accepted(0));
         for (closed, [oxidised, burned, kg]) in years.iter().enumerate() {
             if let Some((_, year)) = replan.filter(|(after, _)| *after == closed) {
@@ -274,11 +279,11 @@ fn cells_drained_by_their_own_losses() {
     let mut site = site_of_years(None, 1, &[row(45, 45, 340)]);
     site.cells = vec![site.cells[0]; cells.len()];
     let listing = site.words();
-    let mut book = lent_book([0, 0])[..2].to_vec();
+    let mut book = lent_book([0, 0])[..3].to_vec();
     book.extend(
         cells
             .iter()
-            .flat_map(|(lost, _, _)| lent_book(*lost)[2..].to_vec()),
+            .flat_map(|(lost, _, _)| lent_book(*lost)[3..].to_vec()),
     );
     both(|ledger| {
         let mut lines = vec![0; site.line_words()];
@@ -329,18 +334,18 @@ fn site_figures() {
         let row = row(dry / 10, 0, burning);
         let listing = one_cell_of(Some(SiteWord { guard, thickness }), row, entered);
         both(|ledger| {
-            let (mut book, mut lines) = ([0; 5], [0; 3]);
+            let (mut book, mut lines) = ([0; BOOK_OF_ONE], [0; 3]);
             assert_eq!((ledger.open)(&listing, &mut book), accepted(0));
             assert_eq!((ledger.close)(&listing, &mut book, &mut lines), accepted(0));
             assert_eq!(lines[..2], [13 << 28, 14 << 28 | burned]);
             // A book that has lost more than the cell may lose is refused at kind 12.
             let most = if entered < thickness { 0 } else { entered };
-            book[3..].copy_from_slice(&[11 << 28 | most, 12 << 28]);
+            book[4..].copy_from_slice(&[11 << 28 | most, 12 << 28]);
             let answer = (ledger.statement)(&listing, &book, 0);
             assert_eq!((answer.number, answer.remaining), (0, entered - most));
-            book[4] = 12 << 28 | 1;
+            book[5] = 12 << 28 | 1;
             let answer = (ledger.statement)(&listing, &book, 0);
-            assert_eq!((answer.number, answer.place), (8, 4));
+            assert_eq!((answer.number, answer.place), (8, 5));
         });
     }
 }
@@ -360,7 +365,7 @@ fn worked_requests() {
     ];
     for (listing, burned, kg, first, second, left) in rows {
         both(|ledger| {
-            let (mut book, mut lines) = ([0; 5], [0; 3]);
+            let (mut book, mut lines) = ([0; BOOK_OF_ONE], [0; 3]);
             assert_eq!((ledger.open)(&listing, &mut book), accepted(0));
             assert_eq!((ledger.close)(&listing, &mut book, &mut lines), accepted(0));
             assert_eq!(lines, [13 << 28 | 45, 14 << 28 | burned, 15 << 28 | kg]);
@@ -425,7 +430,7 @@ fn char_percentages() {
                 (0x0064_6464, refused(2, 1)),
             ] {
                 let listing = worked_with(1, figures | char << 23);
-                assert_eq!((ledger.open)(&listing, &mut [0; 5]), answer);
+                assert_eq!((ledger.open)(&listing, &mut [0; BOOK_OF_ONE]), answer);
             }
         }
     });
@@ -501,20 +506,21 @@ fn refused_site_words() {
     ];
     both(|ledger| {
         for (listing, number, place) in refusals {
-            let mut book = [7; 5];
+            let mut book = [7; BOOK_OF_ONE];
             assert_eq!((ledger.open)(listing, &mut book), refused(number, place));
-            assert_eq!(book, [7; 5]);
+            assert_eq!(book, [7; BOOK_OF_ONE]);
         }
         // Above the range by one, and by each of the fields' high bits alone.
         for above in [2_001, 2_048, 4_096, 8_192, 16_383] {
             for figures in [above << 14, above, above << 14 | 300, 400 << 14 | above] {
                 let listing = with_site_word(7 << 28 | figures);
-                assert_eq!((ledger.open)(&listing, &mut [0; 5]), refused(4, 2));
+                let answer = (ledger.open)(&listing, &mut [0; BOOK_OF_ONE]);
+                assert_eq!(answer, refused(4, 2));
             }
         }
         for figures in [0, 2_000, 2_000 << 14, 2_000 << 14 | 2_000] {
             let listing = with_site_word(7 << 28 | figures);
-            assert_eq!((ledger.open)(&listing, &mut [0; 5]), accepted(0));
+            assert_eq!((ledger.open)(&listing, &mut [0; BOOK_OF_ONE]), accepted(0));
         }
     });
 }
@@ -556,12 +562,12 @@ fn all_years(ledger: &Ledger, site: &Site) -> (Vec<(Vec<u32>, Answer)>, Vec<u32>
 #[test]
 fn worked_first_year() {
     both(|ledger| {
-        let (mut book, mut lines) = ([7; 6], [7; 4]);
+        let (mut book, mut lines) = ([7; BOOK_OF_ONE + 1], [7; 4]);
         assert_eq!((ledger.open)(&WORKED, &mut book), accepted(0));
-        assert_eq!(
-            book,
-            [8 << 28, 9 << 28, 10 << 28 | 1, 11 << 28, 12 << 28, 7]
-        );
+        let opened = [
+            0x80000000, 0x90000000, 0x90000000, 0xA0000001, 0xB0000000, 0xC0000000, 7,
+        ];
+        assert_eq!(book, opened);
         assert_eq!((ledger.close)(&WORKED, &mut book, &mut lines), accepted(0));
         assert_eq!(
             lines,
@@ -588,14 +594,7 @@ fn worked_first_year() {
 fn worked_second_year() {
     let with_term = [&WORKED[..], &[NEGATIVE_TERM]].concat();
     both(|ledger| {
-        let mut book = [
-            8 << 28 | 1,
-            9 << 28 | 553,
-            10 << 28 | 1,
-            11 << 28 | 45,
-            12 << 28 | 300,
-        ];
-        let mut lines = [7; 3];
+        let (mut book, mut lines) = (NEW_WORKED, [7; 3]);
         assert_eq!((ledger.close)(&WORKED, &mut book, &mut lines), accepted(0));
         assert_eq!(lines, [13 << 28 | 45, 14 << 28, 15 << 28 | 82_500]);
         assert_eq!((ledger.issue)(&with_term, &mut book), accepted(0));
@@ -606,7 +605,7 @@ fn worked_second_year() {
         );
         let mut output = [7; 3];
         assert_eq!(
-            (ledger.forecast)(&WORKED, &mut [7; 5], &mut output),
+            (ledger.forecast)(&WORKED, &mut [7; BOOK_OF_ONE], &mut output),
             total(775_000)
         );
         assert_eq!(output, [692_500, 82_500, 7]);
@@ -1054,7 +1053,7 @@ fn long_recordings() {
 #[test]
 fn lengths() {
     both(|ledger| {
-        let mut book = [0; 5];
+        let mut book = [0; BOOK_OF_ONE];
         for listing in [&WORKED[..], &with_site_word(SITE_WORD)] {
             for length in 0..listing.len() {
                 let (number, place) = if length < 2 { (1, 0) } else { (3, length) };
@@ -1062,8 +1061,8 @@ fn lengths() {
                 assert_eq!(answer, refused(number, place));
             }
         }
-        for length in 0..5 {
-            let short = &mut [0; 5][..length];
+        for length in 0..BOOK_OF_ONE {
+            let short = &mut [0; BOOK_OF_ONE][..length];
             let refusal = refused(6, length);
             assert_eq!((ledger.open)(&WORKED, short), refusal);
             assert_eq!((ledger.close)(&WORKED, short, &mut []), refusal);
@@ -1078,7 +1077,8 @@ fn lengths() {
             assert_eq!(answer, refused(7, length));
         }
         for length in 0..2 {
-            let answer = (ledger.forecast)(&WORKED, &mut [0; 5], &mut [0; 2][..length]);
+            let output = &mut [0; 2][..length];
+            let answer = (ledger.forecast)(&WORKED, &mut book, output);
             assert_eq!(answer, forecast_refused(15, length));
         }
         assert_eq!((ledger.close)(&[], &mut [], &mut []), refused(1, 0));
@@ -1086,14 +1086,14 @@ fn lengths() {
     });
 }
 
-/// 256 cells, 16 strata, 100 years, a site word and 700 terms, closed to the end; then the answers of a full book.
+/// 1,000 cells, 16 strata, 100 years, a site word and 700 terms, closed to the end; then the answers of a full book.
 #[test]
 fn largest() {
     let listing = generate::largest().words();
-    assert_eq!(listing.len(), 2_815);
+    assert_eq!(listing.len(), 4_303);
     let mut results = [&PROVED, &REFERENCE].map(|ledger| {
-        let mut book = Random(6).words(2 + 3 * 256);
-        let mut lines = Random(7).words(3 * 256);
+        let mut book = Random(6).words(3 + 3 * 1_000);
+        let mut lines = Random(7).words(3 * 1_000);
         let mut returned = Vec::new();
         assert_eq!((ledger.open)(&listing, &mut book), accepted(0));
         for _ in 0..100 {
@@ -1111,15 +1111,15 @@ fn largest() {
     assert!(results[0] == results[1]);
     // A 701st term cannot rise.
     let mut longer = listing.clone();
-    longer.push(listing[2_814]);
+    longer.push(listing[4_302]);
     both(|ledger| {
         let answer = (ledger.open)(&longer, &mut results[0].1.clone());
-        assert_eq!(answer, refused(5, 2_815));
+        assert_eq!(answer, refused(5, 4_303));
     });
-    results[0].1[2 + 3 * 255] = 0;
+    results[0].1[3 + 3 * 999] = 0;
     both(|ledger| {
         let answer = (ledger.issue)(&listing, &mut results[0].1.clone());
-        assert_eq!(answer, refused(8, 2 + 3 * 255));
+        assert_eq!(answer, refused(8, 3 + 3 * 999));
     });
 }
 
@@ -1131,7 +1131,7 @@ fn greatest_line() {
     for (char, kg) in [(0, 50_740_800), (1, 50_650_776), (31, 47_950_056)] {
         listing[1] = 2 << 28 | char << 23 | 100 << 8 | 100;
         both(|ledger| {
-            let (mut book, mut lines) = ([0; 5], [0; 3]);
+            let (mut book, mut lines) = ([0; BOOK_OF_ONE], [0; 3]);
             assert_eq!((ledger.open)(&listing, &mut book), accepted(0));
             assert_eq!((ledger.close)(&listing, &mut book, &mut lines), accepted(0));
             assert_eq!(lines[2], 15 << 28 | kg);
@@ -1140,19 +1140,24 @@ fn greatest_line() {
 }
 
 /// Three cells of the worked listing's kind, converted in year 1, in year 2 and never: a cell's first year emits 692,500
-/// kg and each later one 82,500, as worked in document 01. The numbers so far are the statements' kg to date.
-#[test]
-fn forecast_of_three_cells() {
+/// kg and each later one 82,500, as worked in document 01.
+fn three_cells() -> Site {
     let mut site = site_of_years(None, 1, &[row(70, 45, 340), row(70, 45, 0), row(70, 45, 0)]);
     let cell = |conversion| Cell {
         conversion,
         ..site.cells[0]
     };
     site.cells = vec![cell(1), cell(2), cell(0)];
-    let listing = site.words();
+    site
+}
+
+/// The numbers so far are the statements' kg to date.
+#[test]
+fn forecast_of_three_cells() {
+    let listing = three_cells().words();
     let years = [692_500, 82_500 + 692_500, 82_500 + 82_500];
     both(|ledger| {
-        let (mut output, mut book, mut lines) = ([7; 4], [0; 11], [0; 9]);
+        let (mut output, mut book, mut lines) = ([7; 4], [0; 3 + 3 * 3], [0; 3 * 3]);
         let answer = (ledger.forecast)(&listing, &mut book, &mut output);
         assert_eq!(answer, total(1_632_500));
         assert_eq!(output, [years[0], years[1], years[2], 7]);
@@ -1174,7 +1179,8 @@ fn forecast_in_another_order() {
     both(|ledger| {
         let forecasts = [&site, &reversed].map(|site| {
             let mut output = [0; 100];
-            let answer = (ledger.forecast)(&site.words(), &mut vec![0; 770], &mut output);
+            let mut book = vec![0; 3 + 3 * 1_000];
+            let answer = (ledger.forecast)(&site.words(), &mut book, &mut output);
             (answer, output)
         });
         assert_eq!(forecasts[0], forecasts[1]);
@@ -1182,16 +1188,9 @@ fn forecast_in_another_order() {
     });
 }
 
-/// 256 cells of 20,000 mm that burn down to the deepest water with the greatest weight, for a guard of 0 leaves nothing
-/// dry: 2,550 mm and 104,040,000 kg each, 26,634,240,000 in all. A year burns 1,023 mm, the third the 504 above the
-/// water, and a mm of all cells emits 256 × 40,800 kg.
-#[test]
-fn greatest_total() {
-    let no_guard = SiteWord {
-        guard: 0,
-        thickness: 300,
-    };
-    let mut site = site_of_years(Some(no_guard), 1, &[row(255, 0, 1_023); 4]);
+/// Cells of 20,000 mm with the greatest weight, each mm of which emits 40,800 kg, and nothing withheld.
+fn greatest_cells(cells: usize, site_word: Option<SiteWord>, rows: &[Row]) -> Site {
+    let mut site = site_of_years(site_word, 1, rows);
     (site.buffer, site.warming, site.methane) = (0, 100, 100);
     let cell = Cell {
         stratum: 0,
@@ -1200,35 +1199,619 @@ fn greatest_total() {
         area: 10_000,
         density: 2_400,
     };
-    site.cells = vec![cell; 256];
+    site.cells = vec![cell; cells];
+    site
+}
+
+/// 1,000 cells that burn down to the deepest water, for a guard of 0 leaves nothing dry: 2,550 mm and 104,040,000 kg
+/// each, 104,040,000,000 in all. A year burns 1,023 mm, the third the 504 above the water.
+#[test]
+fn greatest_total() {
+    let no_guard = SiteWord {
+        guard: 0,
+        thickness: 300,
+    };
+    let site = greatest_cells(1_000, Some(no_guard), &[row(255, 0, 1_023); 4]);
     both(|ledger| {
-        let mut output = [7; 5];
-        let answer = (ledger.forecast)(&site.words(), &mut [0; 770], &mut output);
-        assert_eq!(answer, total(26_634_240_000));
-        assert_eq!(output[..2], [1_023 * 256 * 40_800; 2]);
-        assert_eq!(output[2..], [504 * 256 * 40_800, 0, 7]);
+        let (mut output, mut book) = ([7; 5], [0; 3 + 3 * 1_000]);
+        let answer = (ledger.forecast)(&site.words(), &mut book, &mut output);
+        assert_eq!(answer, total(104_040_000_000));
+        assert_eq!(output[..2], [1_023 * 1_000 * 40_800; 2]);
+        assert_eq!(output[2..], [504 * 1_000 * 40_800, 0, 7]);
     });
 }
 
-/// The greatest balance of any book: 256 cells that have burned all of their 20,000 mm, 816,000,000 kg each, are
-/// 208,896,000 t, and 700 terms of 65,535 t are 45,874,500 more.
+/// A book in which cells of 20,000 mm have burned all of it, with the numbers of its two words of tonnes issued.
+fn all_burned(cells: usize, year: u32, [high, low]: [u32; 2]) -> Vec<u32> {
+    let mut book = vec![8 << 28 | year, 9 << 28 | high, 9 << 28 | low];
+    book.extend([10 << 28 | 1, 11 << 28, 12 << 28 | 20_000].repeat(cells));
+    book
+}
+
+/// Issues on such a book: its tonnes issued before, high and low, the answer, and the tonnes issued after.
+fn issues_of_burned_cells(site: &Site, rows: &[([u32; 2], u32, [u32; 2])]) {
+    let (listing, cells) = (site.words(), site.cells.len());
+    both(|ledger| {
+        for &(before, tonnes, after) in rows {
+            let mut book = all_burned(cells, site.horizon, before);
+            assert_eq!((ledger.issue)(&listing, &mut book), accepted(tonnes));
+            assert_eq!(book, all_burned(cells, site.horizon, after));
+        }
+    });
+}
+
+/// The greatest balance of any book: 1,000 cells that have burned all of their 20,000 mm, 816,000,000 kg each, are
+/// 816,000,000 t, and 700 terms of 65,535 t are 45,874,500 more: 861,874,500, which is 3 × 2^28 + 56,568,132.
 #[test]
 fn greatest_balance_of_a_lent_book() {
-    let mut site = generate::largest();
-    (site.char, site.buffer, site.warming, site.methane) = (0, 0, 100, 100);
-    for cell in &mut site.cells {
-        (cell.entered, cell.area, cell.density) = (20_000, 10_000, 2_400);
-    }
-    site.terms.iter_mut().for_each(|term| term.tonnes = 65_535);
-    let listing = site.words();
-    let cell = [10 << 28 | 1, 11 << 28, 12 << 28 | 20_000];
-    let mut book = vec![8 << 28 | 100, 9 << 28];
-    book.extend(cell.repeat(256));
+    let mut site = greatest_cells(1_000, None, &[row(255, 0, 1_023); 100]);
+    let terms_of = |year| {
+        [1, 3, 4, 5, 6, 7, 8].map(|term| YearlyTerm {
+            year,
+            term,
+            tonnes: 65_535,
+        })
+    };
+    site.terms = (1..=100).flat_map(terms_of).collect();
+    let all = [3, 56_568_132];
+    let rows = [
+        ([0, 0], 861_874_500, all),
+        ([0, 1], 861_874_499, all),
+        ([0, 0x0FFF_FFFF], 593_439_045, all),
+        ([1, 0], 593_439_044, all),
+        ([3, 0], 56_568_132, all),
+        ([3, 56_568_131], 1, all),
+        (all, 0, all),
+        ([3, 56_568_133], 0, [3, 56_568_133]),
+        ([4, 0], 0, [4, 0]),
+        ([0x0FFF_FFFF, 0], 0, [0x0FFF_FFFF, 0]),
+    ];
+    issues_of_burned_cells(&site, &rows);
     both(|ledger| {
-        let account = (ledger.statement)(&listing, &book, 255);
+        let book = all_burned(1_000, 100, all);
+        let account = (ledger.statement)(&site.words(), &book, 999);
         assert_eq!((account.number, account.kg), (0, 816_000_000));
-        let answer = (ledger.issue)(&listing, &mut book.clone());
-        assert_eq!(answer, accepted(254_770_500));
+    });
+}
+
+/// 329 such cells are 268,464,000 t, which is 2^28 + 28,544; a term takes so much, one tonne more or one less away.
+#[test]
+fn tonnes_that_pass_the_low_word() {
+    let rows = [
+        (-28_545, [0, 0], 268_435_455, [0, 0x0FFF_FFFF]),
+        (-28_545, [0, 0x0FFF_FFFE], 1, [0, 0x0FFF_FFFF]),
+        (-28_545, [0, 0x0FFF_FFFF], 0, [0, 0x0FFF_FFFF]),
+        (-28_545, [1, 0], 0, [1, 0]),
+        (-28_544, [0, 0], 268_435_456, [1, 0]),
+        (-28_544, [0, 0x0FFF_FFFE], 2, [1, 0]),
+        (-28_544, [0, 0x0FFF_FFFF], 1, [1, 0]),
+        (-28_544, [1, 0], 0, [1, 0]),
+        (-28_543, [0, 0], 268_435_457, [1, 1]),
+        (-28_543, [0, 0x0FFF_FFFF], 2, [1, 1]),
+        (-28_543, [1, 0], 1, [1, 1]),
+    ];
+    let mut site = greatest_cells(329, None, &[row(255, 0, 1_023)]);
+    for (tonnes, before, answer, after) in rows {
+        let (year, term) = (1, 6);
+        site.terms = vec![YearlyTerm { year, term, tonnes }];
+        issues_of_burned_cells(&site, &[(before, answer, after)]);
+    }
+}
+
+/// A head allows 1 to 1,000 cells. Each listing here has the words that its head asks for.
+#[test]
+fn cells_of_a_head() {
+    let mut site = site_of_years(None, 1, &[row(70, 45, 340)]);
+    let cell = site.cells[0];
+    both(|ledger| {
+        let none = worked_with(0, 0x10000102);
+        assert_eq!((ledger.open)(&none, &mut [0; 3]), refused(2, 0));
+    });
+    for cells in [1, 255, 256, 257, 512, 999, 1_000] {
+        site.cells = vec![cell; cells];
+        accepted_sizes(&site.words(), cells);
+    }
+    for cells in [1_001, 1_023, 1_024, 2_048, 4_095] {
+        site.cells = vec![cell; cells];
+        let listing = site.words();
+        both(|ledger| {
+            let answer = (ledger.open)(&listing, &mut vec![0; 3 + 3 * cells]);
+            assert_eq!(answer, refused(2, 0));
+            let answer = (ledger.forecast)(&listing, &mut vec![0; 3 + 3 * cells], &mut [0]);
+            assert_eq!(answer, forecast_refused(2, 0));
+        });
+    }
+}
+
+/// Buffers just long enough for so many cells, and one word short; the last cell, and the one after it.
+fn accepted_sizes(listing: &[u32], cells: usize) {
+    both(|ledger| {
+        let (mut book, mut lines) = (vec![0; 3 + 3 * cells], vec![0; 3 * cells]);
+        let short = 2 + 3 * cells;
+        let answer = (ledger.open)(listing, &mut book[..short]);
+        assert_eq!(answer, refused(6, short));
+        assert_eq!((ledger.open)(listing, &mut book), accepted(0));
+        let answer = (ledger.close)(listing, &mut book, &mut lines[1..]);
+        assert_eq!(answer, refused(7, 3 * cells - 1));
+        assert_eq!((ledger.close)(listing, &mut book, &mut lines), accepted(0));
+        let worked = [0xD000002D, 0xE000012C, 0xF00A9114];
+        assert_eq!(lines, worked.repeat(cells));
+        let account = (ledger.statement)(listing, &book, cells - 1);
+        assert_eq!((account.number, account.kg), (0, 692_500));
+        assert_eq!((ledger.statement)(listing, &book, cells).number, 10);
+    });
+}
+
+/// 1,000 cells of 300 to 1,299 mm: each burns 300, and oxidises what is left, up to 45 mm. Their kg are 610,000 and
+/// 1,833.3 for each mm oxidised: 29,264,985 of the first 45 cells, and 692,500 of each other. Of 690,602 t 138,121 are
+/// withheld.
+#[test]
+fn thousand_cells() {
+    let mut site = site_of_years(None, 1, &[row(70, 45, 340)]);
+    let cell = site.cells[0];
+    let entered = (300..1_300).map(|entered| Cell { entered, ..cell });
+    site.cells = entered.collect();
+    let listing = site.words();
+    let lines_of = |cell: u32| {
+        let oxidised = cell.min(45);
+        let kg = 610_000 + 5_500 * oxidised / 3;
+        [13 << 28 | oxidised, 14 << 28 | 300, 15 << 28 | kg]
+    };
+    let expected: Vec<u32> = (0..1_000).flat_map(lines_of).collect();
+    both(|ledger| {
+        let (mut book, mut lines) = ([0; 3 + 3 * 1_000], [0; 3 * 1_000]);
+        assert_eq!((ledger.open)(&listing, &mut book), accepted(0));
+        assert_eq!((ledger.close)(&listing, &mut book, &mut lines), accepted(0));
+        assert_eq!(lines[..], expected);
+        assert_eq!((ledger.issue)(&listing, &mut book), accepted(552_481));
+        let mut output = [0];
+        let answer = (ledger.forecast)(&listing, &mut book, &mut output);
+        assert_eq!((answer, output), (total(690_602_485), [690_602_485]));
+    });
+}
+
+/// Every call that tests a book refuses this one at a place, and leaves it as it is.
+fn refused_by_every_call(listing: &[u32], book: &[u32], place: usize) {
+    both(|ledger| {
+        let (mut lent, mut lines) = (book.to_vec(), [7; 3]);
+        let answers = [
+            (ledger.close)(listing, &mut lent, &mut lines),
+            (ledger.replan)(listing, &mut lent, 0, 2),
+            (ledger.withdraw)(listing, &mut lent, 0),
+            (ledger.issue)(listing, &mut lent),
+        ];
+        assert_eq!(answers, [refused(8, place); 4]);
+        let account = Account {
+            number: 8,
+            place,
+            ..Account::default()
+        };
+        assert_eq!((ledger.statement)(listing, &lent, 0), account);
+        assert_eq!((&lent[..], lines), (book, [7; 3]));
+    });
+}
+
+/// Each of the two words of tonnes issued is of kind 9.
+#[test]
+fn kinds_of_tonnes_issued() {
+    for kind in (0..16).filter(|kind| *kind != 9) {
+        for place in [1, 2] {
+            let mut book = lent_book([45, 300]);
+            book[place] = kind << 28 | 553;
+            refused_by_every_call(&WORKED, &book, place);
+        }
+        let mut book = lent_book([45, 300]);
+        book[1..3].fill(kind << 28);
+        refused_by_every_call(&WORKED, &book, 1);
+    }
+}
+
+/// A lent book may have any tonnes of 56 bits issued. No balance of 553 or 620 t comes near these: an issue pays 0, and
+/// neither it nor a closing moves them. By the low word alone some would be paid.
+#[test]
+fn tonnes_of_56_bits() {
+    let tonnes = [
+        [0x90000000, 0x9FFFFFFF],
+        [0x90000001, 0x90000000],
+        [0x90000001, 0x9FFFFFFF],
+        [0x98000000, 0x90000000],
+        [0x9FFFFFFF, 0x90000000],
+        [0x9FFFFFFF, 0x9FFFFFFF],
+    ];
+    // A term 6 of −65,536 t in year 1, by which the balance is below 0.
+    let below_zero = [&WORKED[..], &[0x66030000]].concat();
+    for issued in tonnes {
+        let mut book = lent_book([45, 300]);
+        book[0] = 8 << 28 | 1;
+        book[1..3].copy_from_slice(&issued);
+        both(|ledger| {
+            let (mut lent, mut lines) = (book, [0; 3]);
+            assert_eq!((ledger.issue)(&WORKED, &mut lent), accepted(0));
+            assert_eq!((ledger.issue)(&below_zero, &mut lent), accepted(0));
+            assert_eq!(lent, book);
+            assert_eq!((ledger.close)(&WORKED, &mut lent, &mut lines), accepted(0));
+            assert_eq!((ledger.issue)(&WORKED, &mut lent), accepted(0));
+            assert_eq!(lent[..3], [8 << 28 | 2, issued[0], issued[1]]);
+        });
+    }
+}
+
+/// The old book of the worked listing after year 1: 553 t issued, 45 mm oxidised and 300 burned. And what it becomes.
+const OLD_WORKED: [u32; OLD_BOOK_OF_ONE] =
+    [0x80000001, 0x90000229, 0xA0000001, 0xB000002D, 0xC000012C];
+const NEW_WORKED: [u32; BOOK_OF_ONE] = [
+    0x80000001, 0x90000000, 0x90000229, 0xA0000001, 0xB000002D, 0xC000012C,
+];
+
+/// A conversion into slices with anything in them and with words beyond, which stay as they are, and so does the old
+/// book. Words beyond the old book's are not looked at.
+fn converts(listing: &[u32], old: &[u32], new: &[u32]) {
+    both(|ledger| {
+        for beyond in [0, 1, 5] {
+            for filler in [0, 7, u32::MAX] {
+                let old = [old, &vec![filler; beyond]].concat();
+                let (lent, mut book) = (old.clone(), vec![filler; new.len() + beyond]);
+                assert_eq!((ledger.convert)(listing, &lent, &mut book), accepted(0));
+                assert_eq!(lent, old);
+                assert_eq!(book, [new, &vec![filler; beyond]].concat());
+            }
+        }
+    });
+}
+
+/// An old book of year 2, word for word: cell 0 withdrawn, cell 1 with losses of its own, cell 2 without any, and
+/// 2^28 − 1 t issued.
+#[test]
+fn converted_word_for_word() {
+    let old = [
+        0x80000002, 0x9FFFFFFF, 0xA0000101, 0xB000002D, 0xC000012C, 0xA0000002, 0xB0000029,
+        0xC000012B, 0xA0000003, 0xB0000000, 0xC0000000,
+    ];
+    let new = [
+        0x80000002, 0x90000000, 0x9FFFFFFF, 0xA0000101, 0xB000002D, 0xC000012C, 0xA0000002,
+        0xB0000029, 0xC000012B, 0xA0000003, 0xB0000000, 0xC0000000,
+    ];
+    converts(&three_cells().words(), &old, &new);
+    converts(&WORKED, &OLD_WORKED, &NEW_WORKED);
+}
+
+/// Each head with each cell, of a cell of 2,000 mm and a horizon of 3 years. A cell's words are kept.
+#[test]
+fn converted_heads_and_cells() {
+    let listing = site_of_years(None, 1, &[row(70, 45, 340); 3]).words();
+    // Year 0 and the horizon; 0, 1, 2^27 and 2^28 − 1 tonnes.
+    let heads = [
+        (
+            [0x80000000, 0x90000000],
+            [0x80000000, 0x90000000, 0x90000000],
+        ),
+        (
+            [0x80000001, 0x90000001],
+            [0x80000001, 0x90000000, 0x90000001],
+        ),
+        (
+            [0x80000002, 0x98000000],
+            [0x80000002, 0x90000000, 0x98000000],
+        ),
+        (
+            [0x80000003, 0x9FFFFFFF],
+            [0x80000003, 0x90000000, 0x9FFFFFFF],
+        ),
+    ];
+    // Plan year 0 and the horizon, with and without the mark; all 2,000 mm oxidised, burned, or half of each.
+    let cells = [
+        [0xA0000000, 0xB0000000, 0xC0000000],
+        [0xA0000003, 0xB0000000, 0xC0000000],
+        [0xA0000100, 0xB0000001, 0xC0000002],
+        [0xA0000103, 0xB0000002, 0xC0000001],
+        [0xA0000001, 0xB00007D0, 0xC0000000],
+        [0xA0000001, 0xB0000000, 0xC00007D0],
+        [0xA0000101, 0xB00003E8, 0xC00003E8],
+    ];
+    for (old, new) in &heads {
+        for cell in &cells {
+            let [old, new] = [&old[..], &new[..]].map(|head| [head, cell].concat());
+            converts(&listing, &old, &new);
+        }
+    }
+}
+
+/// 1,000 cells, each with a plan year and losses of its own; then the lengths just too short, and the last word.
+#[test]
+fn thousand_cells_converted() {
+    let mut site = site_of_years(None, 1, &[row(70, 45, 340); 100]);
+    site.cells = vec![site.cells[0]; 1_000];
+    let listing = site.words();
+    let entry = |cell: u32| {
+        let (mark, plan_year) = (cell % 2, cell % 101);
+        let plan = 10 << 28 | mark << 8 | plan_year;
+        [plan, 11 << 28 | cell, 12 << 28 | (999 - cell)]
+    };
+    let entries: Vec<u32> = (0..1_000).flat_map(entry).collect();
+    let mut old = [&[0x80000064, 0x9FFFFFFF], &entries[..]].concat();
+    let new = [&[0x80000064, 0x90000000, 0x9FFFFFFF], &entries[..]].concat();
+    assert_eq!((old.len(), new.len()), (3_002, 3_003));
+    converts(&listing, &old, &new);
+    conversion_refused(&listing, &old[..3_001], 3_003, (6, 3_001));
+    conversion_refused(&listing, &old, 3_002, (6, 3_002));
+    // 999 + 1,002 mm.
+    old[3_001] = 12 << 28 | 1_002;
+    conversion_refused(&listing, &old, 3_003, (8, 3_001));
+}
+
+/// By a number and a place, with both books left as they are.
+fn conversion_refused(listing: &[u32], old: &[u32], new: usize, (number, place): (u32, usize)) {
+    both(|ledger| {
+        let (lent, mut book) = (old.to_vec(), vec![7; new]);
+        let answer = (ledger.convert)(listing, &lent, &mut book);
+        assert_eq!(answer, refused(number, place));
+        assert_eq!((&lent[..], book), (old, vec![7; new]));
+    });
+}
+
+/// 1 to 5 come before what is wrong with either book.
+#[test]
+fn conversions_refused_by_the_listing() {
+    let refusals: [(&[u32], u32, usize); 11] = [
+        (&[], 1, 0),
+        (&WORKED[..1], 1, 0),
+        // No cell, 1,001 cells, and e 101.
+        (&worked_with(0, 0x10000102), 2, 0),
+        (&worked_with(0, 0x13E90102), 2, 0),
+        (&worked_with(1, 0x20141965), 2, 1),
+        (&WORKED[..5], 3, 5),
+        // 1,000 cells, of which one is there.
+        (&worked_with(0, 0x13E80102), 3, 6),
+        (&with_site_word(SITE_WORD)[..6], 3, 6),
+        (&with_site_word(0x707D07D1), 4, 2),
+        // A conversion year above the horizon.
+        (&worked_with(4, 0x400307D0), 4, 4),
+        (&[&WORKED[..], &[NEGATIVE_TERM; 2]].concat(), 5, 7),
+    ];
+    for (listing, number, place) in refusals {
+        conversion_refused(listing, &[], 0, (number, place));
+        conversion_refused(listing, &OLD_WORKED[1..], 5, (number, place));
+        conversion_refused(listing, &[0; 5], 6, (number, place));
+        conversion_refused(listing, &OLD_WORKED, 6, (number, place));
+    }
+}
+
+/// 6 of the old book, then 6 of the new one, then 8, which the words of the second old book here would have at place 0.
+#[test]
+fn conversions_refused_by_a_length() {
+    for old in [OLD_WORKED, [0; 5]] {
+        for old_length in 0..5 {
+            for new_length in 0..9 {
+                conversion_refused(&WORKED, &old[..old_length], new_length, (6, old_length));
+            }
+        }
+        for new_length in 0..6 {
+            conversion_refused(&WORKED, &old, new_length, (6, new_length));
+            // With words beyond.
+            let longer = [&old[..], &[7]].concat();
+            conversion_refused(&WORKED, &longer, new_length, (6, new_length));
+        }
+    }
+    conversion_refused(&WORKED, &[0; 5], 6, (8, 0));
+}
+
+/// Each word of an old book of two cells of 2,000 mm with a horizon of 2 years, by its kind and by its range. The
+/// places are the old book's.
+#[test]
+fn conversions_refused_by_a_word() {
+    let mut site = site_of_years(None, 1, &[row(70, 45, 340), row(70, 45, 0)]);
+    site.cells = vec![site.cells[0]; 2];
+    let listing = site.words();
+    let old = [
+        0x80000001, 0x90000229, 0xA0000001, 0xB000002D, 0xC000012C, 0xA0000100, 0xB0000000,
+        0xC0000001,
+    ];
+    let with = |words: &[(usize, u32)]| {
+        let mut old = old;
+        words.iter().for_each(|&(place, word)| old[place] = word);
+        old
+    };
+    let kinds = [8, 9, 10, 11, 12, 10, 11, 12];
+    for (place, kind) in kinds.into_iter().enumerate() {
+        for wrong in (0..16).filter(|wrong| *wrong != kind) {
+            let word = wrong << 28 | old[place] & 0x0FFF_FFFF;
+            conversion_refused(&listing, &with(&[(place, word)]), 9, (8, place));
+        }
+    }
+    let ranges: [(usize, u32, usize); 15] = [
+        // Years 3, 257 and 2^27.
+        (0, 0x80000003, 0),
+        (0, 0x80000101, 0),
+        (0, 0x88000000, 0),
+        // Plan year 3 without and with the mark, and the bits above the mark.
+        (2, 0xA0000003, 2),
+        (2, 0xA0000103, 2),
+        (2, 0xA0000201, 2),
+        (2, 0xA8000001, 2),
+        (5, 0xA0000003, 5),
+        (5, 0xA0000200, 5),
+        // 45 + 1,956 mm, 1,701 + 300 mm, and so on: a sum counts at kind 12.
+        (4, 0xC00007A4, 4),
+        (4, 0xCFFFFFFF, 4),
+        (3, 0xB00006A5, 4),
+        (3, 0xBFFFFFFF, 4),
+        (6, 0xB00007D0, 7),
+        (7, 0xC00007D1, 7),
+    ];
+    for (place, word, refused_at) in ranges {
+        conversion_refused(&listing, &with(&[(place, word)]), 9, (8, refused_at));
+    }
+    // The lowest of two.
+    for place in 0..7 {
+        conversion_refused(&listing, &with(&[(7, 0), (place, 0)]), 9, (8, place));
+    }
+}
+
+/// A cell that is too thin to lose, by the listing's own least thickness or by 300 mm, has lost nothing.
+#[test]
+fn conversions_of_thin_cells() {
+    let site_word = |thickness| {
+        Some(SiteWord {
+            guard: 400,
+            thickness,
+        })
+    };
+    let old = |[oxidised, burned]: [u32; 2]| [8 << 28, 9 << 28, 10 << 28, oxidised, burned];
+    let [none, one, most] = [
+        [11 << 28, 12 << 28],
+        [11 << 28, 0xC0000001],
+        [0xB000012B, 12 << 28],
+    ];
+    for thickness in [None, site_word(300), site_word(2_000)] {
+        let listing = one_cell_of(thickness, row(70, 45, 340), 299);
+        let new = [[8 << 28, 9 << 28, 9 << 28].as_slice(), &[10 << 28], &none].concat();
+        converts(&listing, &old(none), &new);
+        conversion_refused(&listing, &old(one), 6, (8, 4));
+        conversion_refused(&listing, &old([0xB0000001, 12 << 28]), 6, (8, 4));
+    }
+    for thickness in [0, 299] {
+        let listing = one_cell_of(site_word(thickness), row(70, 45, 340), 299);
+        let new = [[8 << 28, 9 << 28, 9 << 28].as_slice(), &[10 << 28], &most].concat();
+        converts(&listing, &old(most), &new);
+        conversion_refused(&listing, &old([0xB000012B, 0xC0000001]), 6, (8, 4));
+    }
+}
+
+/// A book of one shape is none of the other: word 2 of an old one is of kind 10, and of a new one of kind 9.
+#[test]
+fn books_of_the_other_shape() {
+    refused_by_every_call(&WORKED, &[&OLD_WORKED[..], &[7]].concat(), 2);
+    conversion_refused(&WORKED, &NEW_WORKED, 6, (8, 2));
+}
+
+/// Every call on a converted book of year 1. Cell 2 is planned for year 3, cell 0 withdrawn. In year 2 cell 1 has its
+/// first year, in year 3 its second, and cell 2 its first: 1,385 and 2,160 t to date, 277 and 432 of them withheld.
+#[test]
+fn calls_on_a_converted_book() {
+    let listing = three_cells().words();
+    let old = [
+        0x80000001, 0x90000229, 0xA0000001, 0xB000002D, 0xC000012C, 0xA0000002, 0xB0000000,
+        0xC0000000, 0xA0000000, 0xB0000000, 0xC0000000,
+    ];
+    let after = [
+        0x80000003, 0x90000000, 0x900006C0, 0xA0000101, 0xB000002D, 0xC000012C, 0xA0000002,
+        0xB000005A, 0xC000012C, 0xA0000003, 0xB000002D, 0xC000012C,
+    ];
+    let nothing = [0xD0000000, 0xE0000000, 0xF0000000];
+    let [first, second] = [
+        [0xD000002D, 0xE000012C, 0xF00A9114],
+        [0xD000002D, 0xE0000000, 0xF0014244],
+    ];
+    both(|ledger| {
+        let (mut book, mut lines) = ([7; 3 + 3 * 3], [7; 3 * 3]);
+        assert_eq!((ledger.convert)(&listing, &old, &mut book), accepted(0));
+        assert_eq!((ledger.issue)(&listing, &mut book), accepted(0));
+        assert_eq!((ledger.replan)(&listing, &mut book, 2, 3), accepted(0));
+        assert_eq!((ledger.replan)(&listing, &mut book, 0, 3), refused(12, 0));
+        assert_eq!((ledger.withdraw)(&listing, &mut book, 0), accepted(0));
+        assert_eq!((ledger.withdraw)(&listing, &mut book, 0), refused(11, 0));
+        assert_eq!((ledger.close)(&listing, &mut book, &mut lines), accepted(0));
+        assert_eq!(lines[..], [nothing, first, nothing].concat());
+        assert_eq!((ledger.issue)(&listing, &mut book), accepted(1_108 - 553));
+        assert_eq!((ledger.close)(&listing, &mut book, &mut lines), accepted(0));
+        assert_eq!(lines[..], [nothing, second, first].concat());
+        assert_eq!((ledger.issue)(&listing, &mut book), accepted(1_728 - 1_108));
+        assert_eq!(book, after);
+        let answer = (ledger.close)(&listing, &mut book, &mut lines);
+        assert_eq!(answer, refused(9, 0));
+        let accounts = [0, 1, 2, 3].map(|cell| (ledger.statement)(&listing, &book, cell));
+        assert_eq!(accounts[..3], accounts_of_three_cells());
+        assert_eq!((accounts[3].number, accounts[3].place), (10, 0));
+    });
+}
+
+/// After these calls: cell 0 has had one year, cell 1 two and cell 2 one.
+fn accounts_of_three_cells() -> [Account; 3] {
+    let one_year = |plan_year| Account {
+        entered: 2_000,
+        remaining: 1_655,
+        oxidised: 45,
+        burned: 300,
+        kg: 692_500,
+        plan_year,
+        ..Account::default()
+    };
+    [
+        Account {
+            withdrawn: true,
+            ..one_year(1)
+        },
+        Account {
+            remaining: 1_610,
+            oxidised: 90,
+            kg: 775_000,
+            ..one_year(2)
+        },
+        one_year(3),
+    ]
+}
+
+/// An old book at the horizon, of a cell that was never planned again: 620 t are to date, and 553 were issued.
+#[test]
+fn converted_at_the_horizon() {
+    let old = [0x80000002, 0x90000229, 0xA0000000, 0xB000005A, 0xC000012C];
+    both(|ledger| {
+        let (mut book, mut lines) = ([7; BOOK_OF_ONE], [7; 3]);
+        assert_eq!((ledger.convert)(&WORKED, &old, &mut book), accepted(0));
+        let answer = (ledger.close)(&WORKED, &mut book, &mut lines);
+        assert_eq!((answer, lines), (refused(9, 0), [7; 3]));
+        for year in [1, 2, 3] {
+            assert_eq!((ledger.replan)(&WORKED, &mut book, 0, year), refused(13, 0));
+        }
+        assert_eq!((ledger.replan)(&WORKED, &mut book, 0, 0), accepted(0));
+        assert_eq!((ledger.issue)(&WORKED, &mut book), accepted(67));
+        assert_eq!((ledger.issue)(&WORKED, &mut book), accepted(0));
+    });
+}
+
+/// Tonnes issued of an old book of year 1, when the balance is 553 t, to the answers of an issue then and of one after
+/// year 2, when it is 620: what was issued above the balance is not paid again.
+#[test]
+fn converted_with_more_issued_than_its_balance() {
+    let rows = [
+        (0, 553, 67),
+        (552, 1, 67),
+        (553, 0, 67),
+        (554, 0, 66),
+        (600, 0, 20),
+        (619, 0, 1),
+        (620, 0, 0),
+        (621, 0, 0),
+        (0x0FFF_FFFF, 0, 0),
+    ];
+    for (issued, first, second) in rows {
+        let mut old = OLD_WORKED;
+        old[1] = 9 << 28 | issued;
+        let after = issued + first + second;
+        both(|ledger| {
+            let (mut book, mut lines) = ([0; BOOK_OF_ONE], [0; 3]);
+            assert_eq!((ledger.convert)(&WORKED, &old, &mut book), accepted(0));
+            assert_eq!((ledger.issue)(&WORKED, &mut book), accepted(first));
+            assert_eq!((ledger.issue)(&WORKED, &mut book), accepted(0));
+            assert_eq!((ledger.close)(&WORKED, &mut book, &mut lines), accepted(0));
+            assert_eq!((ledger.issue)(&WORKED, &mut book), accepted(second));
+            assert_eq!(book[..3], [8 << 28 | 2, 9 << 28, 9 << 28 | after]);
+        });
+    }
+}
+
+/// An old book with all that its word can say issued, and 816,000,000 t of peat, which is 3 × 2^28 + 10,693,632.
+#[test]
+fn converted_and_then_past_the_low_word() {
+    let listing = greatest_cells(1_000, None, &[row(255, 0, 1_023)]).words();
+    let new = all_burned(1_000, 1, [0, 0x0FFF_FFFF]);
+    let old = [&new[..1], &new[2..]].concat();
+    both(|ledger| {
+        let mut book = vec![0; 3 + 3 * 1_000];
+        assert_eq!((ledger.convert)(&listing, &old, &mut book), accepted(0));
+        assert_eq!(book, new);
+        assert_eq!((ledger.issue)(&listing, &mut book), accepted(547_564_545));
+        assert_eq!(book, all_burned(1_000, 1, [3, 10_693_632]));
     });
 }
 
@@ -1265,7 +1848,7 @@ fn claims_that_fail() {
 
 /// Of a listing whose first year burns as much as the guard lets it, and pays so many tonnes.
 fn claims_fail_of(listing: &[u32], tonnes: u32) {
-    let mut book = [0; 5];
+    let mut book = [0; BOOK_OF_ONE];
     reference::open(listing, &mut book);
     let mut lines = [0; 3];
     reference::close(listing, &mut book, &mut lines);
@@ -1301,6 +1884,102 @@ fn claims_fail_of(listing: &[u32], tonnes: u32) {
     }
 }
 
+/// The claims on a list that starts from a converted book count what it brings as handed out before.
+#[test]
+fn claims_of_a_converted_book_that_fail() {
+    let account = reference::statement(&WORKED, &NEW_WORKED, 0);
+    let converted = || History::converted(&WORKED, &OLD_WORKED);
+    let mut history = converted();
+    assert_eq!(history.closings(), 1);
+    assert!(history.depth_holds(0, &account) && history.kilograms_hold(0));
+    // 553 t were issued, and the balance is 553.
+    assert!(history.issues_hold());
+    history.issued(0);
+    assert!(history.issues_hold());
+    let more_left = Account {
+        remaining: account.remaining + 1,
+        ..account
+    };
+    assert!(!history.depth_holds(0, &more_left));
+    // The lines of year 2, then one mm or one kg too many; 620 t are met, and what was issued counts.
+    for (lines, kilograms_hold) in [
+        ([45, 0, 82_500], true),
+        ([46, 0, 82_500], false),
+        ([45, 0, 82_499], false),
+        ([45, 0, 82_501], false),
+        ([45, 0, 775_000], false),
+    ] {
+        let mut history = converted();
+        assert!(history.closed(&line_words(lines)).is_empty());
+        assert_eq!(history.kilograms_hold(0), kilograms_hold);
+    }
+    for (tonnes, issues_hold) in [
+        (67, true),
+        (66, false),
+        (68, false),
+        (0, false),
+        (620, false),
+    ] {
+        let mut history = converted();
+        history.closed(&line_words([45, 0, 82_500]));
+        history.issued(tonnes);
+        assert_eq!(history.issues_hold(), issues_hold);
+    }
+}
+
+/// Where a converted book brings more tonnes than any balance, nothing may be paid.
+#[test]
+fn claims_of_more_issued_than_the_balance() {
+    let mut old = OLD_WORKED;
+    old[1] = 0x9FFFFFFF;
+    for (tonnes, issues_hold) in [(0, true), (1, false), (553, false)] {
+        let mut history = History::converted(&WORKED, &old);
+        history.issued(tonnes);
+        assert_eq!(history.issues_hold(), issues_hold);
+    }
+}
+
+fn line_words([oxidised, burned, kg]: [u32; LINE_WORDS]) -> [u32; LINE_WORDS] {
+    [13 << 28 | oxidised, 14 << 28 | burned, 15 << 28 | kg]
+}
+
+/// Fires of year 2 that follow a conversion in year 1: d goes by the O and B and by the plan year that the book brings.
+/// Its own fire is not asked about.
+#[test]
+fn claims_on_fires_after_a_conversion() {
+    let listing = site_of_years(None, 1, &[row(70, 45, 340), row(80, 45, 340)]).words();
+    let rows = [
+        // Age 2 after 45 + 300 and 0 + 0 mm: d is 455 and 800.
+        (1, [45, 300], 55, true),
+        (1, [45, 300], 56, false),
+        (1, [0, 0], 400, true),
+        (1, [0, 0], 401, false),
+        // Age 1, although the listing's conversion is in year 1: d is 700 and 690.
+        (2, [0, 0], 300, true),
+        (2, [0, 0], 301, false),
+        (2, [4, 6], 290, true),
+        (2, [4, 6], 291, false),
+        // A plan year ahead, or none: d counts as 0.
+        (0, [0, 0], 1, false),
+        // More burned than the guard lets.
+        (1, [0, 400], 1, false),
+        (1, [0, 399], 1, true),
+    ];
+    for (plan_year, [oxidised, burned], fire, guard_holds) in rows {
+        let plan = 10 << 28 | plan_year;
+        let old = [
+            8 << 28 | 1,
+            9 << 28,
+            plan,
+            11 << 28 | oxidised,
+            12 << 28 | burned,
+        ];
+        let mut history = History::converted(&listing, &old);
+        let fires = history.closed(&line_words([0, fire, 0]));
+        assert_eq!(history.guard_holds(&fires[0]), guard_holds);
+    }
+}
+
 /// Cells of 1 m² emit only by their sums: rounding each year by itself would give 0 for ever. Density, o and b of each
 /// year, to the years whose line is 1 kg.
 #[test]
@@ -1323,7 +2002,7 @@ fn small_cells_emit() {
         };
         both(|ledger| {
             let mut output = [0; 100];
-            let answer = (ledger.forecast)(&site.words(), &mut [0; 5], &mut output);
+            let answer = (ledger.forecast)(&site.words(), &mut [0; BOOK_OF_ONE], &mut output);
             assert_eq!(answer, total(emitting.len() as u64));
             let is_emitting = |year: usize| u64::from(emitting.contains(&(year + 1)));
             assert_eq!(

@@ -82,12 +82,46 @@ fn lengths() {
         assert_eq!(peatrun(&words[..length]), "odd bytes\n");
     }
     assert_eq!(peatrun(&words[..4]), "refused 1 0\n");
-    assert_eq!(peatrun(&words[..11_259]), "odd bytes\n");
+    assert_eq!(words.len(), 17_212);
+    assert_eq!(peatrun(&words[..17_211]), "odd bytes\n");
+    // A term less, and the limit of earlier releases, which ends within the cells.
+    for length in [17_208, 11_260] {
+        let shorter = &words[..length];
+        assert_eq!(peatrun(shorter), reference::program(shorter));
+    }
     assert_eq!(peatrun(&words), reference::program(&words));
-    assert_eq!(peatrun(&[0; 11_260]), "refused 2 0\n");
-    for length in [11_261, 11_264, 300_000] {
+    assert_eq!(peatrun(&[0; 17_212]), "refused 2 0\n");
+    for length in [17_213, 17_214, 17_216, 300_000] {
         assert_eq!(peatrun(&vec![0; length]), "too long\n");
     }
+}
+
+/// A head of 1,000 cells, which the tests of lengths has too, and of one cell more.
+#[test]
+fn most_cells() {
+    let mut words = generate::largest().words();
+    assert_eq!(words[0], 0x13E8_1064);
+    assert!(peatrun(&sample::bytes(&words)).starts_with("year "));
+    words[0] = 0x13E9_1064;
+    assert_eq!(peatrun(&sample::bytes(&words)), "refused 2 0\n");
+}
+
+/// The greatest lines: 1,000 cells of 20,000 mm, which burn 1,023 mm a year down to 2,550, with a guard of 0. Each mm of
+/// them all emits 40,800,000 kg, and nothing is withheld.
+#[test]
+fn greatest_lines() {
+    let head = [0x13E8_0104, 0x2000_6464, 0x7000_012C];
+    let rows = [0x3FF0_03FF; 4];
+    let cells = [0x4001_4E20, 0x5271_0960].repeat(1_000);
+    let words = [&head[..], &rows, &cells].concat();
+    let text = "year ox burn kg issued
+1 0 1023000 41738400000 41738400
+2 0 1023000 41738400000 41738400
+3 0 504000 20563200000 20563200
+4 0 0 0 0
+left 17450000
+";
+    assert_eq!(peatrun(&sample::bytes(&words)), text);
 }
 
 /// A site word that is out of range, a first row taken for one, and a word 1 of its kind.

@@ -35,7 +35,7 @@ fn companions_say_the_bytes() {
         let (bytes, companion) = (read(&name, "bin"), text(&name, "txt"));
         assert!(companion.starts_with("# "), "{name} is not explained");
         let words = sample::words(&companion);
-        if bytes.len() % 4 == 0 {
+        if bytes.len().is_multiple_of(4) {
             assert_eq!(sample::bytes(&words), bytes, "{name}");
         } else {
             assert!(words.is_empty(), "{name}");
@@ -54,7 +54,7 @@ fn convert(text: &Path, more: &[&str]) -> Output {
 fn the_converter_makes_the_bytes() {
     for name in names() {
         let bytes = read(&name, "bin");
-        if bytes.len() % 4 == 0 {
+        if bytes.len().is_multiple_of(4) {
             let text = sample::directory().join(format!("{name}.txt"));
             let converted = convert(&text, &[]);
             assert!(converted.status.success(), "{name}");
@@ -161,6 +161,6 @@ fn each_refusal_of_a_listing_has_its_sample() {
     assert_eq!(text("too-long", "expected"), "too long\n");
     assert_eq!(text("odd-bytes", "expected"), "odd bytes\n");
     assert_eq!(text("refused-4-site-word", "expected"), "refused 4 2\n");
-    assert_eq!(read("largest", "bin").len(), 11_260);
-    assert_eq!(read("too-long", "bin").len(), 11_261);
+    assert_eq!(read("largest", "bin").len(), 17_212);
+    assert_eq!(read("too-long", "bin").len(), 17_213);
 }

@@ -37,7 +37,7 @@ balance l t kg = balance_of l t (peat_tonnes l kg)
 abbrev pub most_balance : ℕ
 most_balance = most_peat + most_term_sum
 
--- no number of tonnes on the way to a balance is larger than this, above or below zero
+-- no number of tonnes on the way to a balance is larger than this, above or below zero: twice the peat and the terms below zero are less
 abbrev pub most_tonnes : ℕ
 most_tonnes = 2 ^ 31
 

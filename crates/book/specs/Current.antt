@@ -9,7 +9,7 @@ use Rattle.book.specs.Held as held
 use Rattle.book.specs.AcceptedBook as accepted_book
 use Rattle.book.specs.declared.Shape.{Shape}
 
--- number 6 asks for 3 + 3 × cells words
+-- two words of tonnes issued: number 6 asks for 3 + 3 × cells words
 abbrev pub current : Shape
 current = issued_in_two_words
 

@@ -18,11 +18,11 @@ pub record Shaped (s : Shape) : Type 0 where
   pub head : (2 ≤ s.head) × (s.head ≤ 3)
   pub entry : Sized s.entry
 
--- document 02: issued tonnes no longer fit one word; a book of the old shape, a head of 2 words and 3 words for each cell, is converted
+-- the old shape, of document 01: one word of tonnes issued, so a head of 2 words
 abbrev pub issued_in_one_word : Shape
 issued_in_one_word = record { head = 2; entry = 3 }
 
--- into one with two words of tonnes: a head of 3 words, and cells start one word later
+-- document 02, "A thousand cells": two words of tonnes issued, high 28 bits first, so a head of 3 words, and cells start one word later
 abbrev pub issued_in_two_words : Shape
 issued_in_two_words = record { head = 3; entry = 3 }
 

@@ -215,7 +215,7 @@ pub extern "C" fn peat_open(listing: &[u32], book: &mut [u32]) -> Answer
     Answer::from(ledger::open(listing, book))
 }
 
-// The place of a refusal by 6 is the length of the book that it is of, and of a refusal by 8 one in the old book.
+// The place of number 6 is the length of the book that is too short; that of number 8 is an index in the old book.
 #[unsafe(no_mangle)]
 pub extern "C" fn peat_convert(listing: &[u32], old: &[u32], new: &mut [u32]) -> Answer
     ensures value { result ≡ exported (convert_effect listing.now old.now new.old).answer }

@@ -109,7 +109,7 @@ fn put_lines(lines: &mut [u32], s: Loss)
 }
 
 // Closes every cell: its words in the book, and its lines. They are lent to its step by place, the form that
-// document 01 asks for; an opening and a forecast lend them so too, to `book::put_entry`.
+// document 01 asks for; an opening, a conversion of a book and a forecast lend them so too, to `book::put_entry`.
 fn close_cells(listing: &Listing<'_>, book: &mut [u32], lines: &mut [u32], year: u32)
     requires { NextYear listing.now.words.now book.old year × Closable listing.now.words.now book.old (length lines.old) }
     ensures new_book { book.new ≡ filled current.entry book.old current.head (closed_words listing.now.words.now book.old) (cells listing.now.words.now) }

@@ -1,5 +1,5 @@
--- Document 02: a book of one shape is converted without loss, into a second lent slice, to one of another shape: what a conversion of listing l
--- and book `old` into a slice `new` answers and writes, of shape `from` to shape `to`.
+-- Document 02, "A thousand cells": what the conversion of a book answers and writes. `old` is the book, of shape `from`; `new` is the slice that it is
+-- written into, in shape `to`, whose head has no fewer words for the tonnes issued.
 use Rattle.std.specs.Prelude.{List, ℕ}
 use Rattle.words.specs.Answers.{Answer, after}
 use Rattle.book.specs.Layout.{year, issued, entry}

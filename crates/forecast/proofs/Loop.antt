@@ -2,16 +2,15 @@
 use mathlib.Core.Path.{◌≡◌, refl, sym, ap, ap₂, ◌∙◌}
 use mathlib.Core.Bool.{Bool, true, false}
 use mathlib.Core.List.{List, [], ◌∷◌}
-use Prim.Native.Nat.{ℕ, ◌+◌, ◌-◌, ◌^◌, ◌≤◌, ◌<◌}
+use Prim.Native.Nat.{ℕ, zero-le, ◌+◌, ◌-◌, ◌^◌, ◌≤◌, ◌<◌}
 use native.Mathlib.Nat.{le_antisymm}
 use native.Mathlib.Omega.{arith}
-use lib.ListN.{length, get_or, set, replicate, length-set, length-replicate}
-use Rattle.std.proofs.lemmas.List.{get_or-set_same, get_or-set_other, get_or-replicate}
+use lib.ListN.{length, get_or, set, length-set}
+use Rattle.std.proofs.lemmas.List.{get_or-set_same, get_or-set_other, get_or_default}
 use Rattle.words.specs.Sums.{sum_below}
 use Rattle.words.proofs.Blocks.{Filling, filling_none, filling_stored, filling_all}
 use Rattle.words.proofs.Signed.{by_equal}
 use Rattle.words.proofs.Sums.{sum_none, sum_next}
-use Rattle.fields.specs.Words.{most_cells}
 use Rattle.listing.specs.Layout.{head, cells, horizon, row, cell}
 use Rattle.listing.specs.Accepted.{Accepted}
 use Rattle.fields.specs.Valid.{RowValid}
@@ -55,21 +54,18 @@ module _ {A : Type 0} {f g : ℕ → A} {n i : ℕ} {xs : List A} (s : Stepped f
 
 -- ---- the cells, a year in each iteration of the outer loop, and a cell in each of the inner
 
--- i cells are opened: the list began with the first of them everywhere
-abbrev pub OpenedSoFar : List ℕ → ℕ → List CellToDate → Type 0
-OpenedSoFar l i xs = Stepped (λ k. cell_after l 0 0) (cell_after l 0) (cells l) i xs
+-- i cells are opened, over the list that was lent
+abbrev pub OpenedSoFar : List ℕ → List CellToDate → ℕ → List CellToDate → Type 0
+OpenedSoFar l lent i xs = Stepped (λ k. get_or lent k (cell_after l 0 0)) (cell_after l 0) (cells l) i xs
 
-module _ {l : List ℕ} (a : Accepted l) where
-  pub opened_first : {first : CellToDate} → first ≡ cell_after l 0 0 → OpenedSoFar l 1 (replicate most_cells first)
-  opened_first e =
-      let count = a.head_valid.cells in
-      rw e
-      (record {
-        enough = rw (length-replicate most_cells (cell_after l 0 0)) count.1;
-        at_most = count.0;
-        done = λ k d lt. let first : k ≡ 0 = omega arith in rw first (get_or-replicate most_cells 0 (cell_after l 0 0) d (omega arith));
-        left = λ k d from lt. get_or-replicate most_cells k (cell_after l 0 0) d (omega (arith, lt, count));
-      })
+pub opened_none : (l : List ℕ) {lent : List CellToDate} → cells l ≤ length lent → OpenedSoFar l lent 0 lent
+opened_none l {lent} enough =
+    record {
+      enough = enough;
+      at_most = zero-le;
+      done = λ k d lt. absurd (omega arith);
+      left = λ k d from lt. get_or_default lent k d (cell_after l 0 0) (omega arith);
+    }
 
 module _ {l : List ℕ} where
   -- the cells of year t, before the first step to year t + 1, and after the last

@@ -28,6 +28,22 @@ struct CellToDate {
     kg: u32,
 }
 
+// What stands for a cell before it is opened: zeros, which cost least to write.
+const NO_CELL: CellToDate = CellToDate {
+    cell: Cell {
+        stratum: 0,
+        conversion: 0,
+        entered: 0,
+        area: 0,
+        density: 0,
+    },
+    lost: LostMm {
+        oxidised: 0,
+        burned: 0,
+    },
+    kg: 0,
+};
+
 // Number 15, for a valid listing. Of the output, lent to be written later, the length alone goes along.
 fn check_output(listing: &Listing<'_>, capacity: usize) -> Result<(), Refusal>
     ensures { outcome result ≡ output_checked listing.now.words.now capacity }
@@ -65,15 +81,15 @@ fn opened_cell(listing: &Listing<'_>, i: usize) -> CellToDate
     }
 }
 
-// Every cell, opened. What lies beyond the listing's cells is not read.
-fn opened_cells(listing: &Listing<'_>) -> [CellToDate; MOST_CELLS as usize]
-    ensures { CellsAfter listing.now.words.now 0 result }
+// Opens every cell. What lies beyond the listing's cells is not read. They are written where they stay: answered as
+// an array, a thousand cells would be copied twice.
+fn open_cells(listing: &Listing<'_>, all: &mut [CellToDate])
+    requires { cells listing.now.words.now ≤ length all.old }
+    ensures { CellsAfter listing.now.words.now 0 all.new }
 {
-    let mut all = [opened_cell(listing, 0); MOST_CELLS as usize];
-    for i in 1..listing.figures.cells as usize {
+    for i in 0..listing.figures.cells as usize {
         all[i] = opened_cell(listing, i);
     }
-    all
 }
 
 // The entry of a cell that was only closed: no mark, and the plan year of the listing.
@@ -174,7 +190,8 @@ fn write_years(listing: &Listing<'_>, book: &mut [u32], output: &mut [u64]) -> u
         new_book listing.now.words.now book.old (horizon listing.now.words.now) 0 (entries_after listing.now.words.now (horizon listing.now.words.now)) }
     ensures new_output { output.new ≡ output_of listing.now.words.now output.old }
 {
-    let mut all = opened_cells(listing);
+    let mut all = [NO_CELL; MOST_CELLS as usize];
+    open_cells(listing, &mut all);
     let total = run_years(listing, &mut all, output);
     put_cells(listing, book, &all);
     book::put_year(book, listing.figures.horizon);

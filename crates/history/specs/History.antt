@@ -1,4 +1,4 @@
--- Document 01, "Lists of calls", with the drainage and the conversion of document 02: what holds after every list of calls on one listing l and its
+-- Document 01, "Lists of calls", with the drainage and the converted books of document 02: what holds after every list of calls on one listing l and its
 -- book. The figures of the claims are read off the listing, off what a converted book brings, and off what the calls gave, and not off the book.
 -- `EveryList`, towards the end, is the theorem; proofs/EveryList.antt proves it.
 use Rattle.std.specs.Prelude.{◌≡◌, true, cond, List, [], ◌∷◌, ℕ, suc, ◌+◌, ◌-◌, ◌≤◌, ◌<◌, max, eqb, false, ℤ}
@@ -101,7 +101,7 @@ year_in s (Replanned j y ∷ h) = year_in s h
 year_in s (Issued t ∷ h) = year_in s h
 year_in s (Nothing ∷ h) = year_in s h
 
--- cell i's plan year is that of its last accepted replan, or the one counted before the list (the listing's) if there is none
+-- cell i's plan year is that of its last accepted replan; if there is none, the one brought: the listing's after an open, the old book's after a conversion
 unfoldable pub plan_in : BroughtForward → History → ℕ → ℕ
 plan_in s [] i = s.plan i
 plan_in s (Lines x ∷ h) i = plan_in s h i
@@ -138,7 +138,7 @@ issued_in s (Nothing ∷ h) = issued_in s h
 abbrev pub balance_at : List ℕ → BroughtForward → History → ℤ
 balance_at l s h = balance l (year_in s h) (kg_in s h)
 
--- the highest balance met at an accepted issue; the tonnes counted before the list count as one
+-- the highest balance met at an accepted issue, or the tonnes brought (0 by an open) if none was above them: they count as a balance met
 unfoldable pub highest : List ℕ → BroughtForward → History → ℕ
 highest l s [] = s.issued
 highest l s (Lines x ∷ h) = highest l s h

@@ -105,9 +105,9 @@ figures_of l b i =
 unfoldable pub statement_answer : List ℕ → List ℕ → ℕ → AnswerWith CellFigures
 statement_answer l b i = with_figures no_figures (admitted_cell l b i) (figures_of l b i)
 
--- ---- convert: a book with one word of tonnes issued, without loss, into a second slice
+-- ---- convert: writes a book with one word of tonnes issued, `old`, with two into a second slice, `new`
 
--- refused by 1 to 6 for the old book, by 6 for the new one, and by 8
+-- refused by 1 to 5, by 6 for the length of `old`, by 6 for that of `new`, then by 8 for a word of `old`; `new` is then not written
 unfoldable pub convert_effect : List ℕ → List ℕ → List ℕ → Effect
 convert_effect l old new =
     commit (convert_answer issued_in_one_word issued_in_two_words l old new) new (converted_book issued_in_one_word issued_in_two_words l old new)

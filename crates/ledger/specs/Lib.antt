@@ -1,3 +1,3 @@
--- What the contracts of the six calls cite.
+-- What the contracts of the seven calls cite.
 pub mod Calls
 pub mod AdmittedCell

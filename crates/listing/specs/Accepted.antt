@@ -6,7 +6,7 @@ use Rattle.fields.specs.declared.Head.{Head}
 use Rattle.listing.specs.Layout.{cell_words, tables_at, latest_terms_at, head, cells, strata, horizon, offsets, row, cell}
 use Rattle.listing.specs.declared.Offsets.{Offsets}
 
--- the parts follow each other, and the terms begin at word 2,115 or before
+-- the parts follow each other, and the terms begin at word 3,603 or before
 pub record Contiguous (h : Head) (s : Offsets) : Type 0 where
   pub tables : s.tables ≡ tables_at h
   pub cells : s.cells ≡ s.tables + h.strata * h.horizon

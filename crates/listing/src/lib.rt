@@ -28,7 +28,7 @@ const CELL_WORDS: usize = 2;
 // The terms that a year may have, each once.
 const YEAR_TERMS: usize = 7;
 
-// The words of the longest listing: 2,815.
+// The words of the longest listing: 4,303.
 pub const MOST_WORDS: usize = LATEST_TABLES_AT
     + (MOST_STRATA * MOST_HORIZON) as usize
     + CELL_WORDS * MOST_CELLS as usize

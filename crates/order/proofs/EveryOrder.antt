@@ -7,7 +7,7 @@ use lib.ListN.{length}
 use Rattle.book.specs.Current.{admitted}
 use Rattle.ledger.specs.Calls.{Start, Open, Convert, open_effect, convert_effect, start_effect, start_book, call_effect, Call}
 use Rattle.ledger.proofs.After.{start_admits, call_admits}
-use Rattle.order.specs.Order.{Order, ListingMoved, OldBookMoved, moved_start, moved, SameCalls, EveryOrder, EveryOrderFrom}
+use Rattle.order.specs.Order.{Order, ListingMoved, StartMoved, moved_start, moved, SameCalls, EveryOrder, EveryOrderFrom}
 use Rattle.order.proofs.Starts.{starts, start_is, start_moved}
 use Rattle.order.proofs.Calls.{none_moved, Pair, statement_same, pair_next, same_call, pair_alike}
 
@@ -32,7 +32,7 @@ unfolding open_effect convert_effect
 no_lines l (Open b) = refl
 no_lines l (Convert old new) = refl
 
-pub pair_started : {n : ℕ} {o : Order n} {l l' : List ℕ} → ListingMoved o l l' → (from : Start) (old' b' : List ℕ) → OldBookMoved o from old' → length b' ≡ length (start_book from) →
+pub pair_started : {n : ℕ} {o : Order n} {l l' : List ℕ} → ListingMoved o l l' → (from : Start) (old' b' : List ℕ) → StartMoved o from old' → length b' ≡ length (start_book from) →
     (start_effect l from).answer.done ≡ true → Pair o l l' (start_effect l from).book (start_effect l' (moved_start from old' b')).book
 pair_started {l' = l'} e from old' b' eb long done =
     let done' = starts e from old' b' eb long done in

@@ -1,5 +1,5 @@
--- Two cells that change places are an order; for every valid listing there is one with its cells in another order; and lines in another
--- order come to the same. Assumes nothing.
+-- Two cells that change places are an order; for every valid listing, and every book, there is one with its cells in another order; and lines in
+-- another order come to the same. Assumes nothing.
 use mathlib.Core.Path.{◌≡◌, refl, ap, ◌∙◌}
 use mathlib.Core.List.{List, [], ◌∷◌}
 use Prim.Native.Nat.{ℕ, zero, suc, ◌+◌, ◌*◌, ◌≤◌, ◌<◌}
@@ -11,52 +11,88 @@ use borrow.Author.Tests.{eqb-true, eqb-false}
 use Rattle.words.specs.Blocks.{filled}
 use Rattle.words.proofs.Signed.{by_test}
 use Rattle.words.proofs.Blocks.{length_filled, filled_before, filled_word, filled_behind}
-use Rattle.listing.specs.Layout.{cell_words, offsets, cell_at}
+use Rattle.listing.specs.Layout.{cell_words, offsets}
 use Rattle.listing.proofs.Accepted.{accepted, head_before, same_head}
 use Rattle.book.specs.Layout.{line_words, payload, line_at}
-use Rattle.order.specs.Order.{SameTotals, EveryListing, origin, Exchanges}
+use Rattle.order.specs.Order.{Order, Moved, SameTotals, EveryListing, EveryBookInOrder, origin, Exchanges}
 use Rattle.order.proofs.Moved.{same_sum}
 
 pub same_totals : SameTotals
 same_totals n o x y e line lt = same_sum o (line_at line x) (line_at line y) (λ m less. ap payload (rw (zero-add (line_words * m), zero-add (line_words * o.from m)) at (e.block m less line lt)))
 
--- ---- a listing
+-- ---- a listing, and a book
 
--- two words of a list, from place k on
-two : List ℕ → ℕ → List ℕ
-two l k = get_or l k 0 ∷ get_or l (k + 1) 0 ∷ []
+-- n words of a list, from place k on
+words_at : List ℕ → ℕ → ℕ → List ℕ
+words_at l k zero = []
+words_at l k (suc n) = get_or l k 0 ∷ words_at l (k + 1) n
 
-two_length : (l : List ℕ) (k : ℕ) → length (two l k) ≡ cell_words
-unfolding two
-two_length l k = refl
+words_length : (l : List ℕ) (k n : ℕ) → length (words_at l k n) ≡ n
+unfolding words_at
+words_length l k zero = refl
+words_length l k (suc n) = ap suc (words_length l (k + 1) n)
 
-two_word : (l : List ℕ) (k j : ℕ) → j < cell_words → get_or (two l k) j 0 ≡ get_or l (k + j) 0
-unfolding two
-two_word l k zero lt = let z : k ≡ k + zero = omega arith in rw (← z)
-two_word l k (suc zero) lt = refl
-two_word l k (suc (suc j)) lt = absurd (omega arith)
+word_at : (l : List ℕ) (k n j : ℕ) → j < n → get_or (words_at l k n) j 0 ≡ get_or l (k + j) 0
+unfolding words_at
+word_at l k zero j lt = absurd (omega arith)
+word_at l k (suc n) zero lt = let z : k ≡ k + zero = omega arith in rw (← z)
+word_at l k (suc n) (suc j) lt = let z : k + 1 + j ≡ k + suc j = omega arith in word_at l (k + 1) n j (omega arith) ∙ rw z
+
+-- x with its n blocks in that order
+module _ {n : ℕ} (o : Order n) (size at : ℕ) (x : List ℕ) (capacity : at + size * n ≤ length x) where
+  block : ℕ → List ℕ
+  block m = words_at x (at + size * o.from m) size
+
+  sized : (m : ℕ) → length (block m) ≡ size
+  unfolding block
+  sized m = words_length x (at + size * o.from m) size
+
+  in_order : List ℕ
+  in_order = filled size x at block n
+
+  same_length : length in_order ≡ length x
+  unfolding in_order
+  same_length = length_filled size x at block sized (omega arith) n capacity
+
+  same_before : (k : ℕ) → k < at → get_or in_order k 0 ≡ get_or x k 0
+  unfolding in_order
+  same_before = filled_before size x at block sized (omega arith) n
+
+  same_behind : (k : ℕ) → at + size * n ≤ k → get_or in_order k 0 ≡ get_or x k 0
+  unfolding in_order
+  same_behind = filled_behind size x at block sized (omega arith) n
+
+  in_order_moved : Moved o size at x in_order
+  unfolding in_order block
+  in_order_moved =
+      record {
+        before = λ k lt. rw zero-add (same_before k lt);
+        block = λ m lt k less. filled_word size x at block sized (omega arith) n m k lt less ∙ word_at x (at + size * o.from m) size k less;
+      }
 
 pub every_listing : EveryListing
 every_listing n o l count valid =
     let long = (accepted l valid).long in
     let parts = (accepted l valid).parts in
-    let start : ℕ = (offsets l).cells in
-    let f : ℕ → List ℕ = λ m. two l (cell_at l (o.from m)) in
-    let sized : (m : ℕ) → length (f m) ≡ cell_words = λ m. two_length l (cell_at l (o.from m)) in
-    let capacity : start ≤ length l = omega arith in
-    let before : (k : ℕ) → k < start → get_or (filled cell_words l start f n) k 0 ≡ get_or l k 0 = filled_before cell_words l start f sized capacity n in
+    let at : ℕ = (offsets l).cells in
+    let capacity : at + cell_words * n ≤ length l = omega arith in
     record {
-      listing = filled cell_words l start f n;
+      listing = in_order o cell_words at l capacity;
       is = record {
         count = count;
-        head_is = same_head _ _ (λ k le. before k (omega (arith, head_before l (accepted l valid))));
-        length_is = length_filled cell_words l start f sized capacity n (omega arith);
-        cells_moved = record {
-          before = λ k lt. rw zero-add (before k lt);
-          block = λ m lt k less. filled_word cell_words l start f sized capacity n m k lt less ∙ two_word l (cell_at l (o.from m)) k less;
-        };
-        terms_same = λ k le. filled_behind cell_words l start f sized capacity n k (omega arith);
+        head_is = same_head _ _ (λ k le. same_before o cell_words at l capacity k (omega (arith, head_before l (accepted l valid))));
+        length_is = same_length o cell_words at l capacity;
+        cells_moved = in_order_moved o cell_words at l capacity;
+        terms_same = λ k le. same_behind o cell_words at l capacity k (omega arith);
       };
+    }
+
+pub every_book_in_order : EveryBookInOrder
+every_book_in_order n o s b enough =
+    record {
+      book = in_order o s.entry s.head b enough;
+      moved = in_order_moved o s.entry s.head b enough;
+      length_is = same_length o s.entry s.head b enough;
     }
 
 -- ---- two cells

@@ -18,7 +18,7 @@ use Rattle.converting.specs.Converting.{convert_answer}
 use Rattle.converting.proofs.Convertible.{new_fitted, convert_is}
 use Rattle.opening.specs.Opening.{open_entry, open_book}
 use Rattle.ledger.specs.Calls.{Start, Open, Convert, open_effect, convert_effect, start_effect, start_book}
-use Rattle.order.specs.Order.{Order, ListingMoved, OldBookMoved, BookMoved, ButForPlace, moved_start}
+use Rattle.order.specs.Order.{Order, ListingMoved, OldBookMoved, StartMoved, BookMoved, ButForPlace, moved_start}
 use Rattle.order.proofs.Listings.{cell_is}
 use Rattle.order.proofs.Books.{fitted_alike, capacity_alike, book_alike, new_moved, year_is, issued_is, entry_is}
 use Rattle.order.proofs.Calls.{written_moved}
@@ -32,7 +32,7 @@ module _ {n : ℕ} {o : Order n} {l l' : List ℕ} (e : ListingMoved o l l') whe
 
   -- ---- a conversion
 
-  module _ (old new old' new' : List ℕ) (eb : OldBookMoved o (Convert old new) old') (long : length new' ≡ length new) where
+  module _ (old new old' new' : List ℕ) (eb : OldBookMoved o old old') (long : length new' ≡ length new) where
     old_fits : ButForPlace (fitted issued_in_one_word l old) (fitted issued_in_one_word l' old')
     old_fits = fitted_alike issued_in_one_word one_word_shaped e old old' eb.1
 
@@ -60,13 +60,13 @@ module _ {n : ℕ} {o : Order n} {l l' : List ℕ} (e : ListingMoved o l l') whe
 
   -- ---- either
 
-  pub start_alike : (from : Start) (old' b' : List ℕ) → OldBookMoved o from old' → length b' ≡ length (start_book from) →
+  pub start_alike : (from : Start) (old' b' : List ℕ) → StartMoved o from old' → length b' ≡ length (start_book from) →
       ButForPlace (start_effect l from).answer (start_effect l' (moved_start from old' b')).answer
   unfolding open_effect
   start_alike (Open b) old' b' eb long = fitted_alike current shaped e b b' long
   start_alike (Convert old new) old' b' eb long = convert_alike old new old' b' eb long
 
-  module _ (from : Start) (old' b' : List ℕ) (eb : OldBookMoved o from old') (long : length b' ≡ length (start_book from)) (done : (start_effect l from).answer.done ≡ true) where
+  module _ (from : Start) (old' b' : List ℕ) (eb : StartMoved o from old') (long : length b' ≡ length (start_book from)) (done : (start_effect l from).answer.done ≡ true) where
     pub starts : (start_effect l' (moved_start from old' b')).answer.done ≡ true
     starts = (start_alike from old' b' eb long).done_is ∙ done
 
@@ -76,7 +76,7 @@ unfolding open_effect convert_effect
 start_is l (Open b) done = fitted_is current l b done
 start_is l (Convert old new) done = convert_is issued_in_one_word current one_word_shaped shaped (omega arith) l old new done
 
-pub start_moved : {n : ℕ} {o : Order n} {l l' : List ℕ} → ListingMoved o l l' → (from : Start) (old' b' : List ℕ) → OldBookMoved o from old' → length b' ≡ length (start_book from) →
+pub start_moved : {n : ℕ} {o : Order n} {l l' : List ℕ} → ListingMoved o l l' → (from : Start) (old' b' : List ℕ) → StartMoved o from old' → length b' ≡ length (start_book from) →
     (start_effect l from).answer.done ≡ true → (start_effect l' (moved_start from old' b')).answer.done ≡ true → BookMoved o (start_effect l from).book (start_effect l' (moved_start from old' b')).book
 unfolding open_effect
 start_moved e (Open b) old' b' eb long done done' = written_moved _ _ b b' done done' (open_moved e b b' done done')

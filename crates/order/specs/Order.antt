@@ -1,6 +1,6 @@
 -- Beyond document 01, about a fault that users met (a release took the table row of the cell before, and a site that sorted its cells
 -- otherwise got another total): a cell's year depends on its own words, and so no call depends on the order of the cells. `OwnWords`, `EveryOrder`,
--- `EveryBook` and `EveryForecast` are proved in the file of that name in proofs/, `SameTotals`, `EveryListing` and `Exchanges` in Orders.antt.
+-- `EveryBook` and `EveryForecast` are proved in the file of that name in proofs/, `SameTotals`, `EveryListing`, `EveryBookInOrder` and `Exchanges` in Orders.antt.
 use Rattle.std.specs.Prelude.{◌≡◌, true, false, cond, List, [], ◌∷◌, ℕ, ◌+◌, ◌*◌, ◌≤◌, ◌<◌, eqb, length, get_or}
 use Rattle.words.specs.Answers.{Answer}
 use Rattle.words.specs.Effect.{Effect}
@@ -10,7 +10,8 @@ use Rattle.listing.specs.Check.{checked}
 use Rattle.year.specs.Year.{unconverted, age}
 use Rattle.year.specs.Limits.{SameFigures}
 use Rattle.book.specs.Current.{current, entry_at, entry, admitted}
-use Rattle.book.specs.Layout.{issued_in_one_word, line_words, year, line_at}
+use Rattle.book.specs.Layout.{issued_in_one_word, book_size, line_words, year, line_at}
+use Rattle.book.specs.declared.Shape.{Shape}
 use Rattle.closing.specs.Closing.{loss, closed_words, closed_lines}
 use Rattle.ledger.specs.Calls.{statement_answer, Start, Open, Convert, start_effect, start_book, Call, Close, Replan, Withdraw, Issue, call_effect, lines_buffer}
 use Rattle.forecast.specs.Forecast.{forecast_effect}
@@ -74,10 +75,14 @@ BookMoved o = Moved o current.entry current.head
 abbrev pub LinesMoved : {n : ℕ} → Order n → List ℕ → List ℕ → Type 0
 LinesMoved o = Moved o line_words 0
 
--- the old book of a conversion in that order, and as long; an open has none
-abbrev pub OldBookMoved : {n : ℕ} → Order n → Start → List ℕ → Type 0
-OldBookMoved o (Open b) old' = Unit {0}
-OldBookMoved o (Convert old new) old' = Moved o issued_in_one_word.entry issued_in_one_word.head old old' × (length old' ≡ length old)
+-- a book of the old shape in that order, and as long
+abbrev pub OldBookMoved : {n : ℕ} → Order n → List ℕ → List ℕ → Type 0
+OldBookMoved o old old' = Moved o issued_in_one_word.entry issued_in_one_word.head old old' × (length old' ≡ length old)
+
+-- of a start the old book that is converted; an open has none
+abbrev pub StartMoved : {n : ℕ} → Order n → Start → List ℕ → Type 0
+StartMoved o (Open b) old' = Unit {0}
+StartMoved o (Convert old new) old' = OldBookMoved o old old'
 
 -- listing and book
 pub record ProjectMoved {n : ℕ} (o : Order n) (l b l' b' : List ℕ) : Type 0 where
@@ -114,11 +119,11 @@ SameCalls o l l' b b' (c ∷ calls) =
     (y : List ℕ) → length y ≡ length (lines_buffer c) →
     SameCall o l l' (call_effect l b c) (call_effect l' b' (moved o y c)) × SameCalls o l l' (call_effect l b c).book (call_effect l' b' (moved o y c)).book calls
 
--- THE THEOREM: for every order of the cells of every listing that an open or a conversion accepts, with every book b' as long as the one that it
--- writes, and every list of calls, refused ones included
+-- THE THEOREM: for every order of the cells of every listing that an open or the conversion of an old book accepts, with the old book's cells in that
+-- order, every slice b' as long as the one that is written, and every list of calls, refused ones included
 abbrev pub EveryOrder : Type 0
 EveryOrder =
-    (n : ℕ) (o : Order n) (l : List ℕ) (from : Start) (l' old' b' : List ℕ) → ListingMoved o l l' → OldBookMoved o from old' → length b' ≡ length (start_book from) →
+    (n : ℕ) (o : Order n) (l : List ℕ) (from : Start) (l' old' b' : List ℕ) → ListingMoved o l l' → StartMoved o from old' → length b' ≡ length (start_book from) →
     (start_effect l from).answer.done ≡ true →
     let from' = moved_start from old' b' in
     SameCall o l l' (start_effect l from) (start_effect l' from') × ((calls : List Call) → SameCalls o l l' (start_effect l from).book (start_effect l' from').book calls)
@@ -137,7 +142,7 @@ pub record ButForPlace (a a' : Answer) : Type 0 where
 -- any listing and any book, valid or not: a call is refused in every order or in none, by the same number. The place may be another: it
 -- is that of the first invalid word, and which of two invalid cells is first depends on the order
 pub record RefusedAlike {n : ℕ} (o : Order n) (l b l' b' : List ℕ) : Type 0 where
-  pub started : (from : Start) (old' c' : List ℕ) → OldBookMoved o from old' → length c' ≡ length (start_book from) →
+  pub started : (from : Start) (old' c' : List ℕ) → StartMoved o from old' → length c' ≡ length (start_book from) →
       ButForPlace (start_effect l from).answer (start_effect l' (moved_start from old' c')).answer
   pub called : (c : Call) (y : List ℕ) → length y ≡ length (lines_buffer c) → ButForPlace (call_effect l b c).answer (call_effect l' b' (moved o y c)).answer
   pub book_moved : (c : Call) (y : List ℕ) → length y ≡ length (lines_buffer c) → BookMoved o (call_effect l b c).book (call_effect l' b' (moved o y c)).book
@@ -176,6 +181,15 @@ pub record Reordered {n : ℕ} (o : Order n) (l : List ℕ) : Type 0 where
 
 abbrev pub EveryListing : Type 0
 EveryListing = (n : ℕ) (o : Order n) (l : List ℕ) → cells l ≡ n → (checked l).done ≡ true → Reordered o l
+
+-- and for every book of n cells, of any shape, one with its cells in that order
+pub record InThatOrder {n : ℕ} (o : Order n) (s : Shape) (b : List ℕ) : Type 0 where
+  pub book : List ℕ
+  pub moved : Moved o s.entry s.head b book
+  pub length_is : length book ≡ length b
+
+abbrev pub EveryBookInOrder : Type 0
+EveryBookInOrder = (n : ℕ) (o : Order n) (s : Shape) (b : List ℕ) → book_size s n ≤ length b → InThatOrder o s b
 
 -- where i and j have changed places, what is at m came from here
 unfoldable pub origin : ℕ → ℕ → ℕ → ℕ

@@ -12,7 +12,7 @@ use Rattle.book.specs.Current.{entry, admitted}
 use Rattle.book.specs.Layout.{year}
 use Rattle.ledger.specs.Calls.{close_effect, issue_effect}
 
--- the bytes of the longest listing, 11,260
+-- the bytes of the longest listing, 17,212
 abbrev pub most_bytes : ℕ
 most_bytes = 4 * most_words
 

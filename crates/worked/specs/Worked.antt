@@ -4,7 +4,7 @@ use Rattle.std.specs.Prelude.{◌≡◌, false, cond, List, [], ◌∷◌, ◌++
 use Rattle.std.specs.Float.{binary32}
 use Rattle.std.specs.Float.Ieee.{of_bits}
 use Rattle.fields.specs.declared.Cell.{Cell}
-use Rattle.listing.specs.Layout.{head, guard, row as table}
+use Rattle.listing.specs.Layout.{head, guard, most_words, row as table}
 use Rattle.listing.specs.Check.{checked}
 use Rattle.year.specs.Year.{burned_by, oxidised_by, emission, year_loss}
 use Rattle.book.specs.Layout.{oxidised_line, burned_line, kg_line}
@@ -147,16 +147,25 @@ year l b =
 abbrev pub old_book : ℕ → ℕ → ℕ → List ℕ
 old_book w₀ w₁ w₂ = w₀ ∷ w₁ ∷ w₂ ∷ 0xB000002D ∷ 0xC000012C ∷ []
 
--- what a conversion of it into a slice of n zeros answers and leaves: number, place and the slice
-abbrev pub converts : List ℕ → ℕ → List ℕ
-converts b n = let m = convert_effect listing b (zeros n) in m.answer.number ∷ m.answer.place ∷ m.book
+-- what a conversion with listing l answers and leaves in a slice: number, place and the slice
+abbrev pub converts : List ℕ → List ℕ → List ℕ → List ℕ
+converts l old new = let m = convert_effect l old new in m.answer.number ∷ m.answer.place ∷ m.book
 
--- a book after the first year that brings 2 ^ 28 tonnes issued
-abbrev pub brings_more : List ℕ
-brings_more = 0x80000001 ∷ 0x90000001 ∷ 0x90000000 ∷ 0xA0000001 ∷ 0xB000002D ∷ 0xC000012C ∷ []
+-- what an issue on the first listing answers and leaves: number, place, tonnes and the book
+abbrev pub issues : List ℕ → List ℕ
+issues b = let m = issue_effect listing b in m.answer.number ∷ m.answer.place ∷ m.answer.value ∷ m.book
 
-abbrev pub brings_more_after_two : List ℕ
-brings_more_after_two = 0x80000002 ∷ 0x90000001 ∷ 0x90000000 ∷ 0xA0000001 ∷ 0xB000005A ∷ 0xC000012C ∷ []
+-- seven words that a slice may hold
+abbrev pub sevens : List ℕ
+sevens = 7 ∷ 7 ∷ 7 ∷ 7 ∷ 7 ∷ 7 ∷ 7 ∷ []
+
+-- the book after the first year, with other words of tonnes issued
+abbrev pub with_tonnes : ℕ → ℕ → List ℕ
+with_tonnes high low = 0x80000001 ∷ high ∷ low ∷ 0xA0000001 ∷ 0xB000002D ∷ 0xC000012C ∷ []
+
+-- and after the second, where nothing was paid
+abbrev pub after_two_with_tonnes : ℕ → ℕ → List ℕ
+after_two_with_tonnes high low = 0x80000002 ∷ high ∷ low ∷ 0xA0000001 ∷ 0xB000005A ∷ 0xC000012C ∷ []
 
 -- a depth by the patterns of its binary32 numbers
 abbrev pub core : ℕ → List ℕ
@@ -252,13 +261,21 @@ rows =
     ∷ row (loses deep 2130 1200 900) (30 ∷ 0 ∷ [])
     ∷ row (refusal (with_cells 1000)) (3 ∷ 6 ∷ [])
     ∷ row (refusal (with_cells 1001)) (2 ∷ 0 ∷ [])
-    ∷ row (converts (old_book 0x80000001 0x90000229 0xA0000001) 6) (0 ∷ 0 ∷ after_one)
-    ∷ row (converts (old_book 0x80000002 0x9FFFFFFF 0xA0000102) 7) (0 ∷ 0 ∷ 0x80000002 ∷ 0x90000000 ∷ 0x9FFFFFFF ∷ 0xA0000102 ∷ 0xB000002D ∷ 0xC000012C ∷ 0 ∷ [])
-    ∷ row (converts (take 4 (old_book 0x80000001 0x90000229 0xA0000001)) 5) (6 ∷ 4 ∷ zeros 5)
-    ∷ row (converts (old_book 0x80000003 0x80000229 0xA0000001) 5) (6 ∷ 5 ∷ zeros 5)
-    ∷ row (converts (old_book 0x80000002 0x80000229 0xA0000103) 6) (8 ∷ 1 ∷ zeros 6)
-    ∷ row (converts (old_book 0x80000002 0x90000229 0xA0000103) 6) (8 ∷ 2 ∷ zeros 6)
-    ∷ row (year listing brings_more) (45 ∷ 0 ∷ 82500 ∷ 0 ∷ brings_more_after_two)
+    ∷ row (4 * most_words ∷ []) (17212 ∷ [])
+    ∷ row (converts listing (old_book 0x80000001 0x90000229 0xA0000001) (zeros 6)) (0 ∷ 0 ∷ after_one)
+    ∷ row (converts listing (old_book 0x80000002 0x9FFFFFFF 0xA0000102) sevens) (0 ∷ 0 ∷ 0x80000002 ∷ 0x90000000 ∷ 0x9FFFFFFF ∷ 0xA0000102 ∷ 0xB000002D ∷ 0xC000012C ∷ 7 ∷ [])
+    ∷ row (converts thickness_2001 [] []) (4 ∷ 2 ∷ [])
+    ∷ row (converts listing (take 4 (old_book 0x80000001 0x90000229 0xA0000001)) (take 5 sevens)) (6 ∷ 4 ∷ take 5 sevens)
+    ∷ row (converts listing (old_book 0x80000003 0x80000229 0xA0000001) (take 5 sevens)) (6 ∷ 5 ∷ take 5 sevens)
+    ∷ row (converts listing (old_book 0x80000002 0x80000229 0xA0000103) sevens) (8 ∷ 1 ∷ sevens)
+    ∷ row (converts listing (old_book 0x80000002 0x90000229 0xA0000103) sevens) (8 ∷ 2 ∷ sevens)
+    ∷ row (converts listing after_one sevens) (8 ∷ 2 ∷ sevens)
+    ∷ row (issues (old_book 0x80000001 0x90000229 0xA0000001)) (6 ∷ 5 ∷ 0 ∷ old_book 0x80000001 0x90000229 0xA0000001)
+    ∷ row (issues (old_book 0x80000001 0x90000229 0xA0000001 ++ zeros 1)) (8 ∷ 2 ∷ 0 ∷ old_book 0x80000001 0x90000229 0xA0000001 ++ zeros 1)
+    ∷ row (issues (with_tonnes 0x90000000 0x90000000)) (0 ∷ 0 ∷ 553 ∷ after_one)
+    ∷ row (year listing (with_tonnes 0x90000001 0x90000000)) (45 ∷ 0 ∷ 82500 ∷ 0 ∷ after_two_with_tonnes 0x90000001 0x90000000)
+    ∷ row (issues (with_tonnes 0x9FFFFFFF 0x9FFFFFFF)) (0 ∷ 0 ∷ 0 ∷ with_tonnes 0x9FFFFFFF 0x9FFFFFFF)
+    ∷ row (issues (with_tonnes 0x90000000 0x80000229)) (8 ∷ 2 ∷ 0 ∷ with_tonnes 0x90000000 0x80000229)
     ∷ row (logged_test 2 1 (100 ∷ 50 ∷ 30 ∷ []) (10 ∷ 10 ∷ []) (8000 ∷ [])) (0 ∷ 0 ∷ 72 ∷ 0 ∷ [])
     ∷ row (logged_test 3 2 densities areas discounts) (0 ∷ 0 ∷ 2153 ∷ 0 ∷ [])
     ∷ row (logged_test 3 2 (zeros 8) areas discounts) (0 ∷ 0 ∷ 0 ∷ 1 ∷ [])

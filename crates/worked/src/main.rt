@@ -222,7 +222,7 @@ fn print_left(rt: &impl Print, name: &str, l: &[u32], b: &[u32], i: usize) {
 }
 
 // What is refused once the horizon is reached and the cell is converted.
-fn converted(rt: &impl Print, l: &[u32], b: &mut [u32], x: &mut [u32]) {
+fn at_the_horizon(rt: &impl Print, l: &[u32], b: &mut [u32], x: &mut [u32]) {
     print_outcome(rt, "close at the horizon", ledger::close(l, b, x));
     print_outcome(rt, "replan of a converted cell", ledger::replan(l, b, 0, 0));
     print_left(rt, "left", l, &b[..], 0);
@@ -258,7 +258,7 @@ fn worked(rt: &impl Print) {
     unopened(rt, &l[..6], &mut b, &mut x);
     year(rt, &l[..6], &mut b, &mut x, 0);
     year(rt, &l[..6], &mut b, &mut x, 0);
-    converted(rt, &l[..6], &mut b, &mut x);
+    at_the_horizon(rt, &l[..6], &mut b, &mut x);
     withdrawn(rt, &l[..6], &mut b);
     appended(rt, &l, &mut b, &mut x);
 }
@@ -377,8 +377,8 @@ fn benchmark(rt: &impl Print) {
     years(rt, "open with three rows of 45 cm", 3, &l);
 }
 
-// What is refused of a conversion: an old book that is too short, a new one that is, then the words of the old one.
-fn refused_conversions(rt: &impl Print, l: &[u32], b: &mut [u32]) {
+// What is refused by a conversion: an old book that is too short, a new one that is, then the words of the old one.
+fn refused_old_books(rt: &impl Print, l: &[u32], b: &mut [u32]) {
     let mut old = [
         0x8000_0002u32,
         0x8000_0229,
@@ -402,9 +402,9 @@ fn refused_conversions(rt: &impl Print, l: &[u32], b: &mut [u32]) {
     print_outcome(rt, "plan year 3", ledger::convert(l, &old, b));
 }
 
-// Conversions of books with one word of tonnes issued: one after the worked listing's first year, and its
-// second year; then one at the horizon that is withdrawn and brings the most tonnes.
-fn conversions(rt: &impl Print) {
+// Old books, with one word of tonnes issued, are converted: one after the worked listing's first year, then
+// its second year is closed; and one at the horizon that is withdrawn and brings the most tonnes.
+fn old_books(rt: &impl Print) {
     let l = [
         0x1001_0102u32,
         0x2014_190c,
@@ -424,7 +424,7 @@ fn conversions(rt: &impl Print) {
     let mut x = [0u32; 3];
     print_outcome(rt, "convert", ledger::convert(&l, &old, &mut b));
     year(rt, &l, &mut b, &mut x, 0);
-    refused_conversions(rt, &l, &mut b);
+    refused_old_books(rt, &l, &mut b);
     old[0] = 0x8000_0002;
     old[1] = 0x9fff_ffff;
     old[2] = 0xa000_0102;
@@ -560,7 +560,7 @@ fn main(rt: HostRuntime) {
     misplaced_site(&rt);
     char_left(&rt);
     benchmark(&rt);
-    conversions(&rt);
+    old_books(&rt);
     blocks(&rt);
     block_sizes(&rt);
     block_lengths(&rt);

@@ -3,10 +3,11 @@ use super::listing::Listing;
 use super::peat::most_loss;
 use super::{bits, refusal, Answer};
 
-/// What a book's head says, and its cells' words: plan, oxidised and burned.
+/// What a book's head says, of tonnes issued the high word and the low one, and its cells' words: plan, oxidised and
+/// burned.
 pub struct Book<'a> {
     pub year: &'a mut u32,
-    pub issued: &'a mut u32,
+    pub issued: [&'a mut u32; 2],
     pub entries: &'a mut [[u32; 3]],
 }
 
@@ -15,7 +16,7 @@ pub struct Book<'a> {
 pub fn parts<'a>(listing: &Listing, book: &'a mut [u32]) -> Result<Book<'a>, Answer> {
     let length = book.len();
     let cells = listing.cells.len();
-    let [year, issued, rest @ ..] = book else {
+    let [year, high, low, rest @ ..] = book else {
         return Err(refusal(6, length));
     };
     let Some(entries) = rest.as_chunks_mut().0.get_mut(..cells) else {
@@ -23,7 +24,7 @@ pub fn parts<'a>(listing: &Listing, book: &'a mut [u32]) -> Result<Book<'a>, Ans
     };
     Ok(Book {
         year,
-        issued,
+        issued: [high, low],
         entries,
     })
 }
@@ -31,7 +32,8 @@ pub fn parts<'a>(listing: &Listing, book: &'a mut [u32]) -> Result<Book<'a>, Ans
 /// Number 8, in one pass without a branch for each word.
 #[inline(always)]
 pub fn check(listing: &Listing, book: &Book) -> Result<(), Answer> {
-    let head = year_is_valid(listing, *book.year) & issued_is_valid(*book.issued);
+    let issued = book.issued.iter().all(|word| issued_is_valid(**word));
+    let head = year_is_valid(listing, *book.year) & issued;
     let pairs = listing.cells.iter().zip(&*book.entries);
     let valid = pairs.fold(head, |all, (&[depth, _], &[plan, oxidised, burned])| {
         all & plan_is_valid(listing, plan)
@@ -72,8 +74,9 @@ fn first_refusal(listing: &Listing, book: &Book) -> Answer {
     if !year_is_valid(listing, *book.year) {
         return refusal(8, 0);
     }
-    if !issued_is_valid(*book.issued) {
-        return refusal(8, 1);
+    let wrong = |word: &&mut u32| !issued_is_valid(**word);
+    if let Some(i) = book.issued.iter().position(wrong) {
+        return refusal(8, 1 + i);
     }
     let pairs = listing.cells.iter().zip(&*book.entries);
     let words = pairs.flat_map(|(&[depth, _], &[plan, oxidised, burned])| {
@@ -83,5 +86,5 @@ fn first_refusal(listing: &Listing, book: &Book) -> Answer {
             burned_is_valid(listing, depth, oxidised, burned),
         ]
     });
-    refusal(8, 2 + words.take_while(|&valid| valid).count())
+    refusal(8, 3 + words.take_while(|&valid| valid).count())
 }

@@ -48,8 +48,8 @@ fn close_cell(
         oxidised + more_oxidised,
         burned + more_burned,
     );
-    *oxidised_word += more_oxidised;
-    *burned_word += more_burned;
+    *oxidised_word = 11 << 28 | (oxidised + more_oxidised);
+    *burned_word = 12 << 28 | (burned + more_burned);
     [
         13 << 28 | more_oxidised,
         14 << 28 | more_burned,

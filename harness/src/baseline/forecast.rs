@@ -13,7 +13,7 @@ pub fn forecast(listing: &[u32], book: &mut [u32], output: &mut [u64]) -> Result
     };
     output.fill(0);
     *book.year = 8 << 28 | listing.horizon;
-    *book.issued = 9 << 28;
+    book.issued.into_iter().for_each(|word| *word = 9 << 28);
     let mut total = 0;
     for (&cell, entry) in listing.cells.iter().zip(book.entries) {
         let (oxidised, burned, kg) = run_cell(&listing, cell, output);

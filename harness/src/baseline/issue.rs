@@ -10,11 +10,13 @@ pub fn issue(listing: &[u32], book: &mut [u32]) -> Outcome {
     let peat = (kg_to_date(&listing, book.entries) / 1_000) as i64;
     let (all, buffered) = terms_to_date(listing.terms, bits(*book.year, 27, 0));
     let withheld = (i64::from(listing.buffer) * (peat + buffered).max(0) + 99) / 100;
-    let due = peat + all - withheld - i64::from(bits(*book.issued, 27, 0));
-    let tonnes = due.max(0) as u32;
-    // A balance is below 2^28, so the kind stays.
-    *book.issued += tonnes;
-    Ok(tonnes)
+    let [high, low] = book.issued;
+    let issued = i64::from(bits(*high, 27, 0)) << 28 | i64::from(bits(*low, 27, 0));
+    let tonnes = (peat + all - withheld - issued).max(0);
+    let after = issued + tonnes;
+    *high = 9 << 28 | (after >> 28) as u32;
+    *low = 9 << 28 | bits(after as u32, 27, 0);
+    Ok(tonnes as u32)
 }
 
 fn kg_to_date(listing: &Listing, entries: &[[u32; 3]]) -> u64 {

@@ -16,7 +16,7 @@ pub fn most_loss(thickness: u32, depth: u32) -> u32 {
 #[inline(always)]
 pub fn loss(guard: u32, row: u32, lost: u32, remaining: u32) -> (u32, u32) {
     let d = (10 * bits(row, 27, 20)).saturating_sub(lost);
-    let burned = bits(row, 9, 0).min(remaining).min(d.saturating_sub(guard));
+    let burned = bits(row, 9, 0).min(remaining.min(d.saturating_sub(guard)));
     // What burned is not above either, so nothing goes below zero.
     let oxidised = bits(row, 19, 10).min(remaining.min(d) - burned);
     (oxidised, burned)

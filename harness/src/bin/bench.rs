@@ -1,6 +1,7 @@
 //! Times the proved calls and the baseline's on the same inputs, in turn, and prints their ratio.
 use harness::generate::{self, Random};
 use harness::proved;
+use harness::site::Site;
 use harness::timed::{Calls, BASELINE, PROVED};
 use std::hint::black_box;
 use std::time::Instant;
@@ -35,9 +36,10 @@ fn compare(name: &str, runs: u32, calls: usize, mut run: impl FnMut(&Calls)) -> 
 }
 
 /// A book of the middle year.
-fn middle_book(listing: &[u32]) -> Vec<u32> {
-    let mut book = vec![0; 2 + 3 * 256];
-    let mut lines = vec![0; 3 * 256];
+fn middle_book(site: &Site) -> Vec<u32> {
+    let listing = &site.words();
+    let mut book = vec![0; site.book_words()];
+    let mut lines = vec![0; site.line_words()];
     assert_eq!(proved::open(listing, &mut book).number, 0);
     for _ in 0..50 {
         assert_eq!(proved::close(listing, &mut book, &mut lines).number, 0);
@@ -45,11 +47,21 @@ fn middle_book(listing: &[u32]) -> Vec<u32> {
     book
 }
 
-/// Close, issue and forecast on the largest listing; nanoseconds of a proved closing.
-fn ledger_calls(listing: &[u32]) -> f64 {
-    let middle = middle_book(listing);
+fn heading(cells: usize) {
+    println!("{cells} cells, 16 strata, 100 years, 700 terms; nanoseconds of a call, least of {ROUNDS} rounds");
+    println!(
+        "{:<9} {:>12} {:>12} {:>8}",
+        "call", "proved", "baseline", "ratio"
+    );
+}
+
+/// Close, issue and forecast on the largest listing of so many cells; nanoseconds of a proved closing.
+fn ledger_calls(site: &Site) -> f64 {
+    heading(site.cells.len());
+    let listing = &site.words()[..];
+    let middle = middle_book(site);
     let mut book = middle.clone();
-    let mut lines = vec![0; 3 * 256];
+    let mut lines = vec![0; site.line_words()];
     // Each run closes a fresh copy; copying is in both times, and about a hundredth of them.
     let closing = compare("close", 200, 1, |calls| {
         book.copy_from_slice(black_box(&middle));
@@ -59,7 +71,7 @@ fn ledger_calls(listing: &[u32]) -> f64 {
     });
     book.copy_from_slice(&middle);
     compare("issue", 200, 1, |calls| {
-        book[1] = black_box(middle[1]);
+        book[1..3].copy_from_slice(black_box(&middle[1..3]));
         let answer = calls.issue(black_box(listing), &mut book);
         assert!(black_box(answer).value > 0);
         black_box(&book);
@@ -104,13 +116,9 @@ fn discounts() {
 }
 
 fn main() {
-    let listing = generate::largest().words();
-    println!("256 cells, 16 strata, 100 years, 700 terms; nanoseconds of a call, least of {ROUNDS} rounds");
-    println!(
-        "{:<9} {:>12} {:>12} {:>8}",
-        "call", "proved", "baseline", "ratio"
-    );
-    let closing = ledger_calls(&listing);
+    // As many cells as there were before a thousand, to compare.
+    ledger_calls(&generate::largest_of(256));
+    let closing = ledger_calls(&generate::largest());
     readings();
     discounts();
     println!("closings per second, proved: {:.0}", 1e9 / closing);

@@ -347,7 +347,7 @@ Cell 3 is never converted (conversion year 0).
 Cell 4 has just the least thickness of peat, cell 5 is 1 mm short of it.";
 
 const LARGEST_ABOUT: &str = "\
-The longest listing there is: 256 cells, 16 strata, 100 years, the site word and all 700 yearly terms, 2,815 words, 11,260 bytes.
+The longest listing there is: 1,000 cells, 16 strata, 100 years, the site word and all 700 yearly terms, 4,303 words, 17,212 bytes.
 Its figures are made up; the cells are not sorted by stratum.";
 
 const REFUSED_1: &str = "\
@@ -373,7 +373,7 @@ const EMPTY_ABOUT: &str = "\
 No bytes at all: a listing of no words, refused by number 1 at place 0.";
 
 const TOO_LONG_ABOUT: &str = "\
-11,261 bytes, the listing of largest.bin and one byte more: peatrun takes 11,260 at most.
+17,213 bytes, the listing of largest.bin and one byte more: peatrun takes 17,212 at most.
 It says so before it counts whole words. There are no words to show here.";
 
 const ODD_ABOUT: &str = "\

@@ -1,11 +1,11 @@
 //! Books that no list need have led to, and forecasts.
-use crate::lent::{agree, lend, open, Lent};
+use crate::lent::{agree, lend, open, Answered, Lent};
 use crate::rule::{count_d, inactive, row_of_year};
 use harness::generate::{self, Call, Random};
 use harness::loss::CellYear;
-use harness::met::{Met, LENT};
-use harness::site::{Site, BOOK_CELL_WORDS, BOOK_HEAD, LINE_WORDS};
-use harness::PROVED;
+use harness::met::{balance_row, Met, LENT};
+use harness::site::{entries, head_words, tonnes_issued, Site, BOOK_HEAD, LINE_WORDS};
+use harness::{PROVED, REFERENCE};
 
 /// Every call on any accepted book.
 pub fn any_book(seed: u64, met: &mut Met) {
@@ -24,43 +24,97 @@ pub fn any_book(seed: u64, met: &mut Met) {
                 Call::Close { .. } if answer.number == 0 => {
                     count_closing(met, &site, &book, &lent.lines);
                 }
-                Call::Issue if answer.value > 0 => count_payment(met, &lent.book),
+                Call::Issue => count_issue(met, &book, &lent, &answer),
                 _ => {}
             }
         }
     }
 }
 
-/// The cells that may lose in a closing, by the book before it and the lines after it.
-fn count_closing(met: &mut Met, site: &Site, book: &[u32], lines: &[u32]) {
-    let year = (book[0] & 0xFF) + 1;
-    let entries = book[BOOK_HEAD..].chunks_exact(BOOK_CELL_WORDS);
-    let entries = entries.zip(lines.chunks_exact(LINE_WORDS));
-    for (i, (cell, (entry, line))) in site.cells.iter().zip(entries).enumerate() {
-        let (withdrawn, plan) = (entry[0] & 0x100 != 0, entry[0] & 0xFF);
-        if inactive(site, i, withdrawn, plan, year).is_some() {
-            continue;
-        }
-        let [oxidised, burned, more_oxidised, more_burned] =
-            [entry[1], entry[2], line[0], line[1]].map(|word| word & 0x0FFF_FFFF);
-        let cell_year = CellYear {
-            row: row_of_year(site, i, plan, year).expect("a converted cell"),
-            guard: site.guard(),
-            entered: cell.entered,
-            oxidised,
-            burned,
-        };
-        count_d(met, LENT, &cell_year, [more_oxidised, more_burned]);
+/// Issues of the highest balances, for which one word of tonnes issued is too small.
+pub fn rich_books(seed: u64, met: &mut Met) {
+    let random = &mut Random(seed);
+    for _ in 0..1_000 {
+        let site = generate::richest(random);
+        let mut lent = lend(random, &site);
+        let book = generate::book(random, &site);
+        lent.book.clone_from(&book);
+        let answer = agree(met, Call::Issue, &mut lent);
+        count_issue(met, &book, &lent, &answer);
     }
 }
 
-/// After an issue that paid, the tonnes issued are the balance. A lent book may have lost all of its peat.
-fn count_payment(met: &mut Met, book: &[u32]) {
-    let row = match book[1] & 0x0FFF_FFFF {
-        0..=72_508_740 => "to 72,508,740 t",
-        _ => "to 254,770,500 t",
-    };
-    met.count("balance paid, lent book", row);
+/// The cells that may lose in a closing, by the book before it and the lines after it.
+fn count_closing(met: &mut Met, site: &Site, book: &[u32], lines: &[u32]) {
+    let year = (book[0] & 0xFF) + 1;
+    let entries = entries(BOOK_HEAD, book).zip(lines.chunks_exact(LINE_WORDS));
+    for (i, (cell, (entry, line))) in site.cells.iter().zip(entries).enumerate() {
+        if inactive(site, i, entry.withdrawn, entry.plan, year).is_some() {
+            continue;
+        }
+        let cell_year = CellYear {
+            row: row_of_year(site, i, entry.plan, year).expect("a converted cell"),
+            guard: site.guard(),
+            entered: cell.entered,
+            oxidised: entry.oxidised,
+            burned: entry.burned,
+        };
+        let lines = [line[0], line[1]].map(|word| word & 0x0FFF_FFFF);
+        count_d(met, LENT, &cell_year, lines);
+    }
+}
+
+/// The tonnes that a lent book has issued, and what an issue makes of them. A lent book may have lost all of its peat.
+fn count_issue(met: &mut Met, before: &[u32], lent: &Lent, answer: &Answered) {
+    let issued = tonnes_issued(BOOK_HEAD, before);
+    let (first, second) = (issued >> 28, issued & 0x0FFF_FFFF);
+    let balance = balance(&lent.listing, before);
+    let tonnes = |issued: u64| balance.saturating_sub(issued);
+    assert_eq!(u64::from(answer.value), tonnes(issued));
+    for (is, row) in [
+        (issued == 0, "0"),
+        (issued + 1 == balance, "1 below the balance"),
+        (balance > 0 && issued == balance, "the balance"),
+        (balance > 0 && issued == balance + 1, "1 above the balance"),
+        (issued == (1 << 28) - 1, "268,435,455"),
+        (issued == 1 << 28, "268,435,456"),
+        (issued == (1 << 56) - 1, "72,057,594,037,927,935"),
+    ] {
+        met.count_if(is, "tonnes issued, lent", row);
+    }
+    let pays = answer.value > 0;
+    for (is, row) in [
+        (
+            pays && first == 0 && balance >> 28 > 0,
+            "that pays, with the first word 0 and then above 0",
+        ),
+        (pays && first > 0, "that pays, with the first word above 0"),
+        (
+            tonnes(first << 28) != tonnes(issued),
+            "otherwise with the first word alone",
+        ),
+        (
+            tonnes(second) != tonnes(issued),
+            "otherwise with the second word alone",
+        ),
+        (
+            tonnes(second << 28 | first) != tonnes(issued),
+            "otherwise with the words exchanged",
+        ),
+    ] {
+        met.count_if(is, "issue of a lent book", row);
+    }
+    if pays {
+        assert_eq!(tonnes_issued(BOOK_HEAD, &lent.book), balance);
+        met.count("balance paid, lent", balance_row(balance.into()));
+    }
+}
+
+/// The balance of a book, or 0 where that is negative: what the reference pays where nothing is issued.
+fn balance(listing: &[u32], book: &[u32]) -> u64 {
+    let nothing_issued = head_words(BOOK_HEAD, book[0] & 0xFF, 0);
+    let mut book = [&nothing_issued, &book[BOOK_HEAD..]].concat();
+    u64::from((REFERENCE.issue)(listing, &mut book).value)
 }
 
 /// The kg to date of all cells, as statements have them.
@@ -95,8 +149,12 @@ pub fn forecasts(seed: u64, met: &mut Met) {
             let kg = closed.lines[..lines].iter().skip(2).step_by(LINE_WORDS);
             let kg: u64 = kg.map(|word| u64::from(word & 0x0FFF_FFFF)).sum();
             assert_eq!(lent.output[year], kg);
-            let so_far: u64 = lent.output[..=year].iter().sum();
-            assert_eq!(so_far, kg_to_date(&closed, site.cells.len()));
+            let cells = site.cells.len();
+            // Each statement reads the whole book: of many cells the kg to date are asked after the last year alone.
+            if cells <= 256 || year + 1 == horizon {
+                let so_far: u64 = lent.output[..=year].iter().sum();
+                assert_eq!(so_far, kg_to_date(&closed, cells));
+            }
         }
         assert_eq!(lent.output[..horizon].iter().sum::<u64>(), answer.total);
         let words = site.book_words();
@@ -115,6 +173,8 @@ fn count_forecast(met: &mut Met, site: &Site, output: usize, numbers: &[u64], to
     count(site.horizon == 100, "of 100 years");
     count(site.cells.len() == 1, "of 1 cell");
     count(site.cells.len() == 256, "of 256 cells");
+    count(site.cells.len() == 257, "of 257 cells");
+    count(site.cells.len() == 1_000, "of 1,000 cells");
     let never = site.cells.iter().all(|cell| cell.conversion == 0);
     count(never, "with no cell converted");
     count(output == numbers.len(), "output as long as the horizon");

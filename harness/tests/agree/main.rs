@@ -2,6 +2,7 @@
 //! random calls, and document 01's four claims on lists of calls. It prints a table of what was met.
 mod blocks;
 mod books;
+mod conversions;
 mod dips;
 mod lent;
 mod lists;
@@ -17,11 +18,13 @@ const LEAST_CASES: u64 = 1_000_000;
 type Part = fn(u64, &mut Met);
 
 /// Each part with its seed, side by side.
-const PARTS: [(Part, u64); 10] = [
+const PARTS: [(Part, u64); 12] = [
     (lists::lists, 1),
     (lists::lists, 11),
     (lists::lists, 12),
     (books::any_book, 2),
+    (books::rich_books, 8),
+    (conversions::conversions, 9),
     (books::forecasts, 3),
     (readings::readings, 4),
     (readings::cores_next_to_whole_millimetres, 0),
