@@ -9,9 +9,10 @@
  * figures, a book its state; both are arrays of 32-bit words that the caller owns. A listing whose word 2 is of kind 7,
  * its site word, states its own guard and least thickness of peat there; without it they are 400 and 300 mm. Bits 27 to
  * 23 of word 1 are the percentage of the burned carbon that is left as char. A drainage of the tables counts from the
- * surface at conversion, and what a cell has lost since is taken off. Tables made for earlier releases, which counted
- * from each year's surface, must be restated (docs/GUIDE.md); no call can tell which rule a table was made for. The
- * library keeps nothing between calls and allocates nothing; a call takes at most 40,000 bytes of the stack (a forecast).
+ * surface at conversion, and what a cell has lost since is taken off. Tables made before that, which counted from each
+ * year's surface, must be restated (docs/GUIDE.md); no call can tell which rule a table was made for. A book with one
+ * word of tonnes issued, of before peat_convert, is an old book: peat_convert makes a new one of it. The library keeps
+ * nothing between calls and allocates nothing; a call takes at most 40,000 bytes of the stack (a forecast).
  *
  * Slices. An array is passed as a pointer and its length in elements, not bytes. Any length and any contents get an
  * answer, but the caller sees to it that
@@ -22,7 +23,8 @@
  *
  * Refusals. Number 0 is accepted. Any other number is a refusal: nothing has been written to any slice, every figure of
  * the answer is 0, and every flag false. The tests run in the order of this table, and the first that fails is
- * answered; where one number has several places, the lowest (for dips the lowest of the first recording that has one):
+ * answered; where one number has several places, the lowest (for dips the lowest of the first recording that has one;
+ * of the two books of peat_convert the old one's):
  *
  *   no.  met by                condition                                               place
  *    1   every listing         fewer than 2 words                                      0
@@ -120,13 +122,16 @@ typedef struct {
     uint32_t day;
 } peat_dips_answer;
 
-/* Writes a new book: year 0, nothing issued, the plan years of the listing, no losses. Whatever it held is overwritten. */
+/*
+ * Writes a book for a project that begins: year 0, nothing issued, the plan years of the listing, no losses. Whatever
+ * it held is overwritten.
+ */
 peat_answer peat_open(const uint32_t *listing, size_t listing_len, uint32_t *book, size_t book_len);
 
 /*
- * Converts a book that an earlier release wrote, with one word of tonnes issued (2 + 3 * cells words), into one with two
- * (3 + 3 * cells words): year, tonnes, marks, plan years and losses are kept. `old_book` is only read, and `new_book`
- * may hold anything. A place of 6 is the length of the book that is too short, a place of 8 an index in `old_book`.
+ * Converts an old book, of 2 + 3 * cells words, into a new one, of 3 + 3 * cells words: year, tonnes, marks, plan years
+ * and losses are kept. `old_book` is only read, and `new_book` may hold anything. A place of 6 is the length of the
+ * book that is too short, a place of 8 an index in `old_book`. Convert once, with the project's own listing.
  */
 peat_answer peat_convert(const uint32_t *listing, size_t listing_len, const uint32_t *old_book, size_t old_book_len,
                          uint32_t *new_book, size_t new_book_len);

@@ -1751,6 +1751,40 @@ fn accounts_of_three_cells() -> [Account; 3] {
     ]
 }
 
+/// An old book of two cells and the same with its cells exchanged, as in the listing: the same tonnes, and each cell's
+/// lines where it now is. Cell 1 is drained in year 2 for the first time.
+#[test]
+fn converted_in_another_order() {
+    let mut site = site_of_years(None, 1, &[row(70, 45, 340), row(70, 45, 0)]);
+    let later = Cell {
+        conversion: 2,
+        ..site.cells[0]
+    };
+    site.cells.push(later);
+    let mut exchanged = site.clone();
+    exchanged.cells.reverse();
+    let cells = [
+        [0xA0000001, 0xB000002D, 0xC000012C],
+        [0xA0000002, 0xB0000000, 0xC0000000],
+    ];
+    let old =
+        |[first, second]: [[u32; 3]; 2]| [&[0x80000001, 0x90000229], &first[..], &second].concat();
+    both(|ledger| {
+        let years = [(&site, cells), (&exchanged, [cells[1], cells[0]])].map(|(site, cells)| {
+            let (listing, mut book, mut lines) = (site.words(), [0; 9], [0; 6]);
+            assert_eq!(
+                (ledger.convert)(&listing, &old(cells), &mut book),
+                accepted(0)
+            );
+            assert_eq!((ledger.close)(&listing, &mut book, &mut lines), accepted(0));
+            (lines, (ledger.issue)(&listing, &mut book))
+        });
+        let ([a, b, c, d, e, f], answer) = years[0];
+        assert_eq!(years[1], ([d, e, f, a, b, c], answer));
+        assert!(c != f && answer.value > 0);
+    });
+}
+
 /// An old book at the horizon, of a cell that was never planned again: 620 t are to date, and 553 were issued.
 #[test]
 fn converted_at_the_horizon() {

@@ -81,8 +81,8 @@ fn opened_cell(listing: &Listing<'_>, i: usize) -> CellToDate
     }
 }
 
-// Opens every cell. What lies beyond the listing's cells is not read. They are written where they stay: answered as
-// an array, a thousand cells would be copied twice.
+// Opens every cell where it stays: as an array that is answered, a thousand cells would be copied twice. What
+// lies beyond the listing's cells is not read.
 fn open_cells(listing: &Listing<'_>, all: &mut [CellToDate])
     requires { cells listing.now.words.now ≤ length all.old }
     ensures { CellsAfter listing.now.words.now 0 all.new }

@@ -1,4 +1,4 @@
--- Words beyond those needed are untouched by every close, replan, withdraw and issue. Assumes nothing.
+-- Words beyond those needed are untouched by every start and every call. Assumes nothing.
 use mathlib.Core.Path.{◌≡◌, refl, ◌∙◌}
 use mathlib.Core.Bool.{Bool, true, false}
 use mathlib.Core.List.{List}

@@ -1,5 +1,5 @@
--- Two cells that change places are an order; for every valid listing, and every book, there is one with its cells in another order; and lines in
--- another order come to the same. Assumes nothing.
+-- Two cells that change places are an order; for every valid listing, and every start that is accepted, there is one with its cells in another
+-- order; and lines in another order come to the same. Assumes nothing.
 use mathlib.Core.Path.{◌≡◌, refl, ap, ◌∙◌}
 use mathlib.Core.List.{List, [], ◌∷◌}
 use Prim.Native.Nat.{ℕ, zero, suc, ◌+◌, ◌*◌, ◌≤◌, ◌<◌}
@@ -13,14 +13,18 @@ use Rattle.words.proofs.Signed.{by_test}
 use Rattle.words.proofs.Blocks.{length_filled, filled_before, filled_word, filled_behind}
 use Rattle.listing.specs.Layout.{cell_words, offsets}
 use Rattle.listing.proofs.Accepted.{accepted, head_before, same_head}
-use Rattle.book.specs.Layout.{line_words, payload, line_at}
-use Rattle.order.specs.Order.{Order, Moved, SameTotals, EveryListing, EveryBookInOrder, origin, Exchanges}
+use Rattle.book.specs.Layout.{issued_in_one_word, line_words, payload, line_at}
+use Rattle.book.proofs.AcceptedBook.{one_word_shaped, fitted_accepted}
+use Rattle.words.proofs.Answers.{after_accepted}
+use Rattle.converting.specs.Converting.{convert_answer}
+use Rattle.ledger.specs.Calls.{Open, Convert, convert_effect}
+use Rattle.order.specs.Order.{Order, Moved, SameTotals, EveryListing, EveryStart, origin, Exchanges}
 use Rattle.order.proofs.Moved.{same_sum}
 
 pub same_totals : SameTotals
 same_totals n o x y e line lt = same_sum o (line_at line x) (line_at line y) (λ m less. ap payload (rw (zero-add (line_words * m), zero-add (line_words * o.from m)) at (e.block m less line lt)))
 
--- ---- a listing, and a book
+-- ---- a listing, and an old book
 
 -- n words of a list, from place k on
 words_at : List ℕ → ℕ → ℕ → List ℕ
@@ -87,13 +91,13 @@ every_listing n o l count valid =
       };
     }
 
-pub every_book_in_order : EveryBookInOrder
-every_book_in_order n o s b enough =
-    record {
-      book = in_order o s.entry s.head b enough;
-      moved = in_order_moved o s.entry s.head b enough;
-      length_is = same_length o s.entry s.head b enough;
-    }
+pub every_start : EveryStart
+unfolding convert_effect convert_answer
+every_start n o l (Open b) count done = record { old_book = []; is = tt }
+every_start n o l (Convert old new) count done =
+    let s = issued_in_one_word in
+    let enough : s.head + s.entry * n ≤ length old = rw count at (fitted_accepted s l old one_word_shaped (after_accepted _ _ done).0).capacity in
+    record { old_book = in_order o s.entry s.head old enough; is = (in_order_moved o s.entry s.head old enough, same_length o s.entry s.head old enough) }
 
 -- ---- two cells
 

@@ -1,6 +1,6 @@
 -- Beyond document 01, about a fault that users met (a release took the table row of the cell before, and a site that sorted its cells
 -- otherwise got another total): a cell's year depends on its own words, and so no call depends on the order of the cells. `OwnWords`, `EveryOrder`,
--- `EveryBook` and `EveryForecast` are proved in the file of that name in proofs/, `SameTotals`, `EveryListing`, `EveryBookInOrder` and `Exchanges` in Orders.antt.
+-- `EveryBook` and `EveryForecast` are proved in the file of that name in proofs/, `SameTotals`, `EveryListing`, `EveryStart` and `Exchanges` in Orders.antt.
 use Rattle.std.specs.Prelude.{◌≡◌, true, false, cond, List, [], ◌∷◌, ℕ, ◌+◌, ◌*◌, ◌≤◌, ◌<◌, eqb, length, get_or}
 use Rattle.words.specs.Answers.{Answer}
 use Rattle.words.specs.Effect.{Effect}
@@ -10,8 +10,7 @@ use Rattle.listing.specs.Check.{checked}
 use Rattle.year.specs.Year.{unconverted, age}
 use Rattle.year.specs.Limits.{SameFigures}
 use Rattle.book.specs.Current.{current, entry_at, entry, admitted}
-use Rattle.book.specs.Layout.{issued_in_one_word, book_size, line_words, year, line_at}
-use Rattle.book.specs.declared.Shape.{Shape}
+use Rattle.book.specs.Layout.{issued_in_one_word, line_words, year, line_at}
 use Rattle.closing.specs.Closing.{loss, closed_words, closed_lines}
 use Rattle.ledger.specs.Calls.{statement_answer, Start, Open, Convert, start_effect, start_book, Call, Close, Replan, Withdraw, Issue, call_effect, lines_buffer}
 use Rattle.forecast.specs.Forecast.{forecast_effect}
@@ -182,14 +181,13 @@ pub record Reordered {n : ℕ} (o : Order n) (l : List ℕ) : Type 0 where
 abbrev pub EveryListing : Type 0
 EveryListing = (n : ℕ) (o : Order n) (l : List ℕ) → cells l ≡ n → (checked l).done ≡ true → Reordered o l
 
--- and for every book of n cells, of any shape, one with its cells in that order
-pub record InThatOrder {n : ℕ} (o : Order n) (s : Shape) (b : List ℕ) : Type 0 where
-  pub book : List ℕ
-  pub moved : Moved o s.entry s.head b book
-  pub length_is : length book ≡ length b
+-- and for every start that is accepted one with its cells in that order
+pub record StartInOrder {n : ℕ} (o : Order n) (from : Start) : Type 0 where
+  pub old_book : List ℕ
+  pub is : StartMoved o from old_book
 
-abbrev pub EveryBookInOrder : Type 0
-EveryBookInOrder = (n : ℕ) (o : Order n) (s : Shape) (b : List ℕ) → book_size s n ≤ length b → InThatOrder o s b
+abbrev pub EveryStart : Type 0
+EveryStart = (n : ℕ) (o : Order n) (l : List ℕ) (from : Start) → cells l ≡ n → (start_effect l from).answer.done ≡ true → StartInOrder o from
 
 -- where i and j have changed places, what is at m came from here
 unfoldable pub origin : ℕ → ℕ → ℕ → ℕ

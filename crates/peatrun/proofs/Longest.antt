@@ -1,4 +1,4 @@
--- An accepted listing has at most seven terms for each year, and so at most 2,815 words. Assumes nothing.
+-- An accepted listing has at most seven terms for each year, and so at most 4,303 words. Assumes nothing.
 use native.Mathlib.Omega.{arith}
 use Rattle.listing.proofs.Accepted.{accepted}
 use Rattle.peatrun.specs.Years.{Longest}
