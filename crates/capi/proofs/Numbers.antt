@@ -102,7 +102,8 @@ unfolding open_effect convert_effect convert_answer close_effect close_answer li
 every_number =
     record {
       of_open = fitted_numbered current;
-      of_convert = λ l old new. then _ _ (fitted_numbered issued_in_one_word l old) (then _ _ (capacity_numbered current l new) (book_numbered issued_in_one_word l old));
+      of_convert =
+          λ l old new. then _ _ (fitted_numbered issued_in_one_word l old) (then _ _ (capacity_numbered current l new) (book_numbered issued_in_one_word l old));
       of_close =
           λ l b x. then _ _ (fitted_numbered current l b)
           (then _ _ (needed _ 7 _ _ (omega arith) (none _)) (then _ _ (book_numbered current l b) (needed _ 9 _ _ (omega arith) (searched 14 _ _ _ (omega arith) (none _)))));

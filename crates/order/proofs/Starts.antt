@@ -77,7 +77,8 @@ start_is l (Open b) done = fitted_is current l b done
 start_is l (Convert old new) done = convert_is issued_in_one_word current one_word_shaped shaped (omega arith) l old new done
 
 pub start_moved : {n : ℕ} {o : Order n} {l l' : List ℕ} → ListingMoved o l l' → (from : Start) (old' b' : List ℕ) → StartMoved o from old' → length b' ≡ length (start_book from) →
-    (start_effect l from).answer.done ≡ true → (start_effect l' (moved_start from old' b')).answer.done ≡ true → BookMoved o (start_effect l from).book (start_effect l' (moved_start from old' b')).book
+    (start_effect l from).answer.done ≡ true → (start_effect l' (moved_start from old' b')).answer.done ≡ true →
+    BookMoved o (start_effect l from).book (start_effect l' (moved_start from old' b')).book
 unfolding open_effect
 start_moved e (Open b) old' b' eb long done done' = written_moved _ _ b b' done done' (open_moved e b b' done done')
 start_moved e (Convert old new) old' b' eb long done done' = converted_moved e old new old' b' eb long done done'
