@@ -97,8 +97,8 @@ readings_numbered r k (suc n) =
     then _ _ (then _ _ (reading_numbered k d.depth) (reading_numbered k d.tolerance)) (readings_numbered r (suc k) n)
 
 pub every_number : EveryNumber
-unfolding open_effect convert_effect convert_answer close_effect close_answer lines_checked year_checked replan_effect replan_answer plan_checked withdraw_effect issue_effect issue_answer statement_answer
-    forecast_effect forecast_answer forecast_checked output_checked discount logged tables_checked dips dips_checked
+unfolding open_effect convert_effect convert_answer close_effect close_answer lines_checked year_checked replan_effect replan_answer plan_checked withdraw_effect issue_effect
+    issue_answer statement_answer forecast_effect forecast_answer forecast_checked output_checked discount logged tables_checked dips dips_checked
 every_number =
     record {
       of_open = fitted_numbered current;
