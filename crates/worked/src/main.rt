@@ -94,8 +94,8 @@ fn listings(rt: &impl Print) {
     print_check(rt, "table word of kind 4", &l);
     l[1] = 0x2065_190c;
     print_check(rt, "buffer 101 percent", &l);
-    l[0] = 0x1101_0102;
-    print_check(rt, "257 cells", &l);
+    l[0] = 0x13e9_0102;
+    print_check(rt, "1,001 cells", &l);
 }
 
 // The worked listing with terms: -100 t of term 5 and 100 t of term 8 in year 2, and what is invalid.
