@@ -43,11 +43,11 @@ module _ (n : ℕ) (u : ℤ) (s : ℕ) (p : pos s ≡ u +ℤ pos n) where
     difference : u -ℤ v ≡ pos s -ℤ pos b
     difference = sym (cancel u v (pos n)) ∙ ap₂ (λ (i j : ℤ). i -ℤ j) (sym p) (sym q)
 
-    pair_value : accepted (s - b) ≡ accepted (at_least_0 (u -ℤ v))
+    pub pair_value : accepted (s - b) ≡ accepted (at_least_0 (u -ℤ v))
     unfolding at_least_0
     pair_value = ap accepted (sym (ap at_least_0 difference ∙ at_least_0_less (pos s) b))
 
-    base_above : s < b → in_depth (u -ℤ v) ≡ false
+    pub base_above : s < b → in_depth (u -ℤ v) ≡ false
     unfolding in_depth
     base_above h = ap in_depth (difference ∙ diff_same s b 0 (suc (b - suc s)) (omega arith)) ∙ rw (lt-ltb 0 (suc (b - suc s)) (omega arith))
 
@@ -56,7 +56,7 @@ module _ (n : ℕ) (u : ℤ) (s : ℕ) (p : pos s ≡ u +ℤ pos n) where
     bounded h = ap in_depth (difference ∙ diff_is s b (s - b) (omega arith)) ∙ rw (le-leb 0 (s - b) (omega arith))
 
     -- the test of the code, on natural numbers
-    pair_depth : in_depth (u -ℤ v) ≡ (leb b s && leb (s - b) most_depth)
+    pub pair_depth : in_depth (u -ℤ v) ≡ (leb b s && leb (s - b) most_depth)
     pair_depth = by_less s b (λ lt. base_above lt ∙ rw (lt-leb b s lt) refl) (λ le. bounded le ∙ rw (le-leb b s le) refl)
 
 -- ---- what a pair of levels answers, by the millimetres of both above the lowest

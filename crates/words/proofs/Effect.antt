@@ -47,7 +47,7 @@ effect_same a a' b b' x x' p q r = rw (p, q, r)
 module _ (a : Answer) where
   -- they were passed: the slice holds what was written
   module _ (x : ℕ) (e : accepted x ≡ a) where
-    passed_done : a.done ≡ true
+    pub passed_done : a.done ≡ true
     passed_done = ap (λ (n : Answer). n.done) (sym e)
 
     pub passed_written : (old new now : List ℕ) → now ≡ new → now ≡ written a old new

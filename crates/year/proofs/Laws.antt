@@ -28,7 +28,7 @@ abbrev pub dividend : Head → Cell → ℕ → ℕ → ℕ
 dividend h c o b = c.area * c.density * (1100000 * o + burned_weight h * b)
 
 module _ {h : Head} (head : HeadValid h) where
-  ratio_most : 400 * h.warming * h.methane ≤ 4000000
+  pub ratio_most : 400 * h.warming * h.methane ≤ 4000000
   ratio_most = mul-le-mul {n₂ = 40000} {m₂ = 100} (let most = head.warming in omega arith) head.methane
 
   burned_weight_least : 759000 ≤ burned_weight h
@@ -41,7 +41,7 @@ module _ {h : Head} (head : HeadValid h) where
 
 -- by the limits of a valid listing, with at most m mm lost and at most n mm of it burned
 module _ {h : Head} {c : Cell} (head : HeadValid h) (cell : CellValid h.strata h.horizon c) where
-  area_most : c.area * c.density ≤ 24000000
+  pub area_most : c.area * c.density ≤ 24000000
   area_most = mul-le-mul {n₂ = 10000} {m₂ = 2400} cell.area.1 cell.density.1
 
   burning_most : (b : ℕ) → burned_weight h * b ≤ 5100000 * b
@@ -52,7 +52,7 @@ module _ {h : Head} {c : Cell} (head : HeadValid h) (cell : CellValid h.strata h
 
 -- 20,000 mm
 module _ {h : Head} {c : Cell} {o b : ℕ} (fit : WithinLimits h c o b) where
-  lost_most : o + b ≤ 20000
+  pub lost_most : o + b ≤ 20000
   lost_most = let most = fit.cell_valid.entered in let lost = fit.lost in omega arith
 
   burned_most : b ≤ 20000

@@ -18,7 +18,7 @@ pub loop-i-init : goal.loop-i-init
 loop-i-init c = sum_none _
 
 pub kg_to_date-requires : goal.kg_to_date-requires
-kg_to_date-requires c = below (goal.at.kg_to_date-requires c).In-loop-i
+kg_to_date-requires c = omega (arith, below (goal.at.kg_to_date-requires c).In-loop-i)
 
 iterations : (c : After-from-kg) →
     let b = c.args.book.now in
