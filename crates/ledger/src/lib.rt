@@ -71,7 +71,9 @@ fn check_mark(book: &OpenBook<'_>, cell: usize) -> Result<(), Refusal>
     need(!e.withdrawn, Reason::CellWithdrawn, 0)
 }
 
-// Numbers 1 to 6, 8, 10 and 11.
+// Numbers 1 to 6, 8, 10 and 11. Inlined, since an open book that is handed over in memory costs a call on a
+// small site a quarter of its time.
+#[inline(always)]
 fn admit_unwithdrawn<'a>(
     listing: &'a [u32],
     book: &'a [u32],
